@@ -1,0 +1,19 @@
+-- Document 01, "Trades by mode": the text of one side, the same for trades, corrections, cancels and errors. Assumes nothing.
+use Prim.Native.Nat.{ℕ}
+use mathlib.Core.Bool.{Bool}
+use mathlib.Core.List.{List, _++_}
+use Rattle.text.specs.Pick.{opt}
+use Rattle.rules.specs.Volume.{volumeText}
+use Rattle.rules.specs.Price.{priceText}
+use Rattle.rules.specs.Conditions.{afterName, afterPrice, atEnd}
+use Rattle.rules.specs.declared.Side.{Side}
+
+-- order: name, volume, price, conditions
+unfoldable pub sideText : List ℕ → ℕ → ℕ → Bool → Bool → Side → List ℕ
+sideText name network unit full shows x =
+    name
+    ++ afterName (x .letters)
+    ++ opt shows (volumeText network unit (x .volume))
+    ++ priceText full (x .price)
+    ++ afterPrice (x .letters)
+    ++ atEnd x

@@ -1,0 +1,141 @@
+-- Document 01, "Trades by mode" (001, section 4). Assumes nothing.
+use Prim.Native.Nat.{ℕ, _+_, _*_, _/_, _%_, suc}
+use mathlib.Core.Bool.{Bool, true, false, _&&_, _||_, not}
+use lib.Dec.{leb, ltb, eqb}
+use Rattle.text.specs.Pick.{pick}
+use Rattle.rules.specs.Price.{wholePart, units}
+use Rattle.rules.specs.Conditions.{hasRule}
+use Rattle.rules.specs.Qualifying.{forRange, forLast}
+use Rattle.rules.specs.declared.Mode.{Mode}
+use Rattle.rules.specs.declared.Mode.the-variants.{Normal, Dvd, Rpo, Mpv}
+use Rattle.rules.specs.declared.Price.{Price}
+use Rattle.rules.specs.declared.Letters.{Letters}
+use Rattle.rules.specs.declared.Side.{Side}
+use Rattle.rules.specs.declared.Settings.{Settings}
+use Rattle.rules.specs.declared.Security.{Security}
+
+-- the term "six": a first-day issue, its primary market, fewer than six such trades before
+unfoldable pub six : Security → ℕ → Bool
+six s market = eqb (s .first) 1 && (eqb market (s .market) && ltb (s .primaries) 6)
+
+-- the term "at the level": at or over the delete level
+unfoldable pub atLevel : Settings → ℕ → Bool
+atLevel st volume = leb (st .level) volume
+
+-- the term "first trade qualifying", for last
+unfoldable pub firstQualifying : Security → Letters → Bool
+firstQualifying s x = forLast x && eqb (s .qualified) 0
+
+-- a new high is above the high or the first; low alike
+unfoldable pub newHigh : Security → ℕ → Bool
+newHigh s value = eqb (s .high) 0 || ltb (s .high) value
+
+unfoldable pub newLow : Security → ℕ → Bool
+newLow s value = eqb (s .low) 0 || ltb value (s .low)
+
+-- new high or low by a trade that qualifies for them
+unfoldable pub newRange : Security → Side → Bool
+newRange s x = forRange (x .letters) && (newHigh s (units (x .price)) || newLow s (units (x .price)))
+
+-- tens or higher of a whole part
+unfoldable pub tens : ℕ → ℕ
+tens whole = whole / 10
+
+unfoldable pub endsInZero : ℕ → Bool
+endsInZero whole = eqb (whole % 10) 0
+
+-- the dollars of a price in units
+unfoldable pub dollars : ℕ → ℕ
+dollars value = value / 100000000
+
+-- full price, outside normal: none printed yet that day, tens or higher differ from the last printed price, whole part ends in 0, unit 1, 1,000 or over, six
+unfoldable pub fullPrice : Security → ℕ → Side → Bool
+fullPrice s market x =
+    eqb (s .printed) 0
+    || (not (eqb (tens (wholePart (x .price))) (tens (dollars (s .printed))))
+    || (endsInZero (wholePart (x .price))
+    || (eqb (s .unit) 1
+    || (leb 1000 (wholePart (x .price))
+    || six s market))))
+
+-- volume shown, outside normal: at the level, first trade qualifying for last, six, J or G
+unfoldable pub showsVolume : Settings → Security → ℕ → Side → Bool
+showsVolume st s market x =
+    atLevel st (x .volume)
+    || (firstQualifying s (x .letters)
+    || (six s market
+    || hasRule (x .letters)))
+
+-- what prints a trade in RPO and in MPV: six; at the level; unit 1; J or G
+unfoldable pub printsAnyhow : Settings → Security → ℕ → Side → Bool
+printsAnyhow st s market x =
+    six s market
+    || (atLevel st (x .volume)
+    || (eqb (s .unit) 1
+    || hasRule (x .letters)))
+
+-- a price unlike the last printed, or none printed
+unfoldable pub unlikePrinted : Security → ℕ → Bool
+unlikePrinted s value = eqb (s .printed) 0 || not (eqb value (s .printed))
+
+-- level × 0.05 dollars
+unfoldable pub distance : Settings → ℕ
+distance st = st .minimum * 5000000
+
+-- more than level × 0.05 from the last printed
+unfoldable pub farFromPrinted : Settings → Security → ℕ → Bool
+farFromPrinted st s value = not (eqb (s .printed) 0) && (ltb (s .printed + distance st) value || ltb (value + distance st) (s .printed))
+
+-- a trade prints
+unfoldable pub printsTrade : Settings → Security → ℕ → Side → Bool
+printsTrade st s market x = elim (st .mode) [
+  | Normal ↦ true
+  | Dvd ↦ true
+  | Rpo ↦ newRange s x || ((forLast (x .letters) && unlikePrinted s (units (x .price))) || printsAnyhow st s market x)
+  | Mpv ↦ (forLast (x .letters) && farFromPrinted st s (units (x .price))) || (firstQualifying s (x .letters) || printsAnyhow st s market x)
+]
+
+-- the mode is normal
+unfoldable pub isNormal : Mode → Bool
+isNormal Normal = true
+isNormal Dvd = false
+isNormal Rpo = false
+isNormal Mpv = false
+
+-- normal: all in full
+unfoldable pub tradeFull : Settings → Security → ℕ → Side → Bool
+tradeFull st s market x = isNormal (st .mode) || fullPrice s market x
+
+unfoldable pub tradeShows : Settings → Security → ℕ → Side → Bool
+tradeShows st s market x = isNormal (st .mode) || showsVolume st s market x
+
+-- ---- high, low and last follow every accepted trade, and each correcting trade
+
+unfoldable pub highAfter : Security → Side → ℕ
+highAfter s x = pick (forRange (x .letters) && newHigh s (units (x .price))) (units (x .price)) (s .high)
+
+unfoldable pub lowAfter : Security → Side → ℕ
+lowAfter s x = pick (forRange (x .letters) && newLow s (units (x .price))) (units (x .price)) (s .low)
+
+unfoldable pub lastAfter : Security → Side → ℕ
+lastAfter s x = pick (forLast (x .letters)) (units (x .price)) (s .last)
+
+-- a count that stops where it no longer matters
+unfoldable pub counted : Bool → ℕ → ℕ → ℕ
+counted test most count = pick (test && ltb count most) (count + 1) count
+
+-- after an accepted trade: last printed price (of trades only), high, low, last, counts; T lines only, printed or not
+unfoldable pub afterTrade : Settings → Security → ℕ → Side → Security
+afterTrade st s market x = record {
+  unit = s .unit;
+  network = s .network;
+  market = s .market;
+  first = s .first;
+  printed = pick (printsTrade st s market x) (units (x .price)) (s .printed);
+  high = highAfter s x;
+  low = lowAfter s x;
+  last = lastAfter s x;
+  trades = counted true 5 (s .trades);
+  qualified = counted (forLast (x .letters)) 1 (s .qualified);
+  primaries = counted (eqb market (s .market)) 6 (s .primaries);
+}

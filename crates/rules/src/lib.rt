@@ -1,0 +1,139 @@
+// Document 01 as definitions. The types that code and definitions share are declared here; what they mean,
+// and every rule, is in specs/, one module a section, in the document's order.
+
+// What stands in a number's columns (Day lines).
+pub enum Number {
+    Blank,
+    Bad,
+    Is(u64),
+}
+
+// The mode in force (Day lines, M).
+pub enum Mode {
+    Normal,
+    Dvd,
+    Rpo,
+    Mpv,
+}
+
+// n over ten to the power d (Day lines).
+pub struct Price {
+    pub n: u64,
+    pub d: u64,
+}
+
+// The condition letters of a side, each there or not (Price and conditions).
+pub struct Letters {
+    pub o: bool,
+    pub s: bool,
+    pub l: bool,
+    pub n: bool,
+    pub m: bool,
+    pub c: bool,
+    pub k: bool,
+    pub b: bool,
+    pub t: bool,
+    pub r: bool,
+    pub j: bool,
+    pub g: bool,
+}
+
+// One side of a T, X, E or C line, from its volume to its previous last. Days and previous last are 0 where blank.
+pub struct Side {
+    pub volume: u64,
+    pub price: Price,
+    pub letters: Letters,
+    pub days: u64,
+    pub previous: Price,
+}
+
+// An S line, its name apart. `lawful` is false where refusal 8 stops it.
+pub struct Listing {
+    pub number: u64,
+    pub unit: u64,
+    pub network: u64,
+    pub market: u64,
+    pub first: u64,
+    pub lawful: bool,
+}
+
+// A T, X or E line. `lawful` is false where its letters alone call for refusal 10, `matched` where 11 stops it.
+pub struct Trade {
+    pub security: u64,
+    pub market: u64,
+    pub side: Side,
+    pub lawful: bool,
+    pub matched: bool,
+}
+
+// A C line; `lawful` and `matched` are of both sides.
+pub struct Correction {
+    pub security: u64,
+    pub market: u64,
+    pub original: Side,
+    pub correcting: Side,
+    pub lawful: bool,
+    pub matched: bool,
+}
+
+// A line of one of the nine kinds (Day lines).
+pub enum Line {
+    Dated(u64),
+    Listed(Listing),
+    Moded(Mode),
+    Leveled(u64),
+    Stepped(u64),
+    Traded(Trade),
+    Cancelled(Trade),
+    Erred(Trade),
+    Corrected(Correction),
+}
+
+// A line of a known kind: each field in its form (refusal 4), each number within its values (refusal 5), and the line.
+pub struct Parsed {
+    pub formed: bool,
+    pub ranged: bool,
+    pub line: Line,
+}
+
+// Why a line or a tape is not taken (Lines not taken).
+pub enum Refusal {
+    Shape,
+    Kind,
+    NoDate,
+    Form,
+    Value,
+    NotEntered,
+    InUse,
+    Name,
+    SameName,
+    Conditions,
+    Unmatched,
+    DateOrder,
+    Room,
+    NoPrint,
+}
+
+// The settings of a day; the date is 0 before a D line is accepted.
+pub struct Settings {
+    pub date: u64,
+    pub mode: Mode,
+    pub level: u64,
+    pub minimum: u64,
+}
+
+// What a day holds of a security, its name apart. The unit is 0 where none is entered; prices are in units of
+// ten to the power -8 dollars, 0 for none; counts stop where they no longer matter: 5, 1 and 6.
+pub struct Security {
+    pub unit: u64,
+    pub network: u64,
+    pub market: u64,
+    pub first: u64,
+    pub printed: u64,
+    pub high: u64,
+    pub low: u64,
+    pub last: u64,
+    pub trades: u64,
+    pub qualified: u64,
+    pub primaries: u64,
+}

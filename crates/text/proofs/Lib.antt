@@ -1,0 +1,5 @@
+pub mod Tests
+pub mod Texts
+pub mod Writing
+pub mod Decimal
+pub mod Reading
