@@ -84,3 +84,7 @@ and-yes x a b h e = rw (← h) e
 pub ruleset bools = (or-yes, or-no, and-no, and-yes, not-yes, not-no, is-eq, is-ne, is-lt, is-nlt, is-le, is-nle, is-yes, is-no)
 
 pub ruleset tests = (picks, bools)
+
+-- ---- what a callee's answer, tested, says of the test that it answers
+pub told : (t u b : Bool) → t ≡ u → t ≡ b → u ≡ b
+told t u b e h = sym e ∙ h

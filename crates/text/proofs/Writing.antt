@@ -8,6 +8,7 @@ use mathlib.Core.List.{List, [], _∷_, _++_, append-assoc, append-nil}
 use lib.ListN.{length, take, drop, getD, set, length-append, length-drop, length-take, drop-of-length-le}
 use lib.Seq.{take-at, drop-at, take-all, drop-drop}
 use lib.Dec.{eqb, ltb, leb}
+use borrow.Author.Tests.{lt-ltb, le-ltb, le-leb, lt-leb, eq-eqb, ne-eqb}
 use Rattle.text.specs.Pick.{pick, opt}
 use Rattle.text.specs.Put.{put, Written}
 
@@ -62,6 +63,10 @@ joined {s} {t} {u} {b} {xs} {ys} {at} {n} v w e = rw e (then v w)
 pub named : {s t b a : List ℕ} {n : ℕ} → s ≡ t → Written t b a n → Written s b a n
 named e w = rw e w
 
+-- the length of a text of two parts
+pub length-joined : (t u : List ℕ) (r q : ℕ) → r ≡ length t → q ≡ length u → r + q ≡ length (t ++ u)
+length-joined t u r q h k = rw (h, k) (sym (length-append t u))
+
 -- a text that goes on fits where the whole does
 pub shorter : (t u : List ℕ) (m : ℕ) → length (t ++ u) ≤ m → length t ≤ m
 shorter t u m h = omega (arith, length-append t u, h)
@@ -82,9 +87,9 @@ pub put-in : (t : Bool) (u b a : List ℕ) (r : ℕ) → t ≡ true → Written 
 unfolding opt
 put-in t u b a r h w = rw h w
 
-pub room-in : (t : Bool) (u : List ℕ) (m : ℕ) → t ≡ true → length (opt t u) ≤ m → length u ≤ m
+pub room-in : (t : Bool) (u : List ℕ) (m : ℕ) → length (opt t u) ≤ m → t ≡ true → length u ≤ m
 unfolding opt
-room-in t u m h l = rw h at l
+room-in t u m l h = rw h at l
 
 pub length-out : (t : Bool) (u : List ℕ) → t ≡ false → 0 ≡ length (opt t u)
 unfolding opt
@@ -93,6 +98,9 @@ length-out t u h = rw h
 pub length-in : (t : Bool) (u : List ℕ) (r : ℕ) → t ≡ true → r ≡ length u → r ≡ length (opt t u)
 unfolding opt
 length-in t u r h e = rw h e
+
+-- a text that may be left out, written, fitted and measured: `search options`
+pub ruleset options = (left-out, put-in, room-in, length-out, length-in, written-nothing)
 
 -- ---- a choice between two texts
 pub picked-yes : (t : Bool) (u v b a : List ℕ) (r : ℕ) → t ≡ true → Written u b a r → Written (pick t u v) b a r
@@ -103,10 +111,37 @@ pub picked-no : (t : Bool) (u v b a : List ℕ) (r : ℕ) → t ≡ false → Wr
 unfolding pick
 picked-no t u v b a r h w = rw h w
 
-pub room-yes : (t : Bool) (u v : List ℕ) (m : ℕ) → t ≡ true → length (pick t u v) ≤ m → length u ≤ m
+pub room-yes : (t : Bool) (u v : List ℕ) (m : ℕ) → length (pick t u v) ≤ m → t ≡ true → length u ≤ m
 unfolding pick
-room-yes t u v m h l = rw h at l
+room-yes t u v m l h = rw h at l
 
-pub room-no : (t : Bool) (u v : List ℕ) (m : ℕ) → t ≡ false → length (pick t u v) ≤ m → length v ≤ m
+pub room-no : (t : Bool) (u v : List ℕ) (m : ℕ) → length (pick t u v) ≤ m → t ≡ false → length v ≤ m
 unfolding pick
-room-no t u v m h l = rw h at l
+room-no t u v m l h = rw h at l
+
+-- the same of a choice in a choice
+pub room-no-yes : (t q : Bool) (u v w : List ℕ) (m : ℕ) → length (pick t u (pick q v w)) ≤ m → t ≡ false → q ≡ true → length v ≤ m
+room-no-yes t q u v w m l h k = room-yes q v w m (room-no t u (pick q v w) m l h) k
+
+pub room-no-no : (t q : Bool) (u v w : List ℕ) (m : ℕ) → length (pick t u (pick q v w)) ≤ m → t ≡ false → q ≡ false → length w ≤ m
+room-no-no t q u v w m l h k = room-no q v w m (room-no t u (pick q v w) m l h) k
+
+pub room-yes-yes : (t q : Bool) (u v w : List ℕ) (m : ℕ) → length (pick t (pick q u v) w) ≤ m → t ≡ true → q ≡ true → length u ≤ m
+room-yes-yes t q u v w m l h k = room-yes q u v m (room-yes t (pick q u v) w m l h) k
+
+pub room-yes-no : (t q : Bool) (u v w : List ℕ) (m : ℕ) → length (pick t (pick q u v) w) ≤ m → t ≡ true → q ≡ false → length v ≤ m
+room-yes-no t q u v w m l h k = room-no q u v m (room-yes t (pick q u v) w m l h) k
+
+pub length-yes : (t : Bool) (u v : List ℕ) (r : ℕ) → t ≡ true → r ≡ length u → r ≡ length (pick t u v)
+unfolding pick
+length-yes t u v r h e = rw h e
+
+pub length-no : (t : Bool) (u v : List ℕ) (r : ℕ) → t ≡ false → r ≡ length v → r ≡ length (pick t u v)
+unfolding pick
+length-no t u v r h e = rw h e
+
+-- a test from the fact
+pub ruleset facts = (lt-ltb, le-ltb, le-leb, lt-leb, eq-eqb, ne-eqb)
+
+-- a choice, written, fitted and measured: `search choices`
+pub ruleset choices = (picked-yes, picked-no, room-yes, room-no, room-no-yes, room-no-no, room-yes-yes, room-yes-no, length-yes, length-no, written-nothing, facts)

@@ -3,7 +3,7 @@
 ghost use mathlib.Core.Path.{_≡_};
 ghost use Prim.Native.Nat.{_≤_};
 ghost use lib.ListN.{length};
-ghost use Rattle.text.specs.Pick.{same};
+ghost use Rattle.text.specs.Pick.{opt, same};
 ghost use Rattle.text.specs.Put.{Written};
 ghost use Rattle.text.specs.Decimal.{places, decimal};
 
@@ -77,4 +77,24 @@ pub fn same_text(a: &[u8], b: &[u8]) -> bool
         i += 1;
     }
     true
+}
+
+// A text that may be left out.
+pub fn optional_length(test: bool, text: &[u8]) -> usize
+    ensures { λ r. ⌜ (r ≡ length (opt test (now (text .entry)))) × (r ≤ length (now (text .entry))) ⌝ }
+{
+    if test {
+        return text.len();
+    }
+    0
+}
+
+pub fn write_optional(rest: &mut [u8], test: bool, text: &[u8]) -> usize
+    requires { ⌜ length (opt test (now text)) ≤ length (now rest) ⌝ }
+    ensures { λ r. ⌜ Written (opt test (now (text .entry))) (now (rest .entry)) (now (rest .exit)) r ⌝ }
+{
+    if test {
+        return write_bytes(rest, text);
+    }
+    0
 }
