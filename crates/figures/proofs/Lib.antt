@@ -1,2 +1,4 @@
 pub mod Volumes
 pub mod Prices
+pub mod VolumeBack
+pub mod PriceBack

@@ -6,14 +6,21 @@ use Rattle.text.specs.Pick.{opt}
 use Rattle.rules.specs.Volume.{volumeText}
 use Rattle.rules.specs.Price.{priceText}
 use Rattle.rules.specs.Conditions.{afterName, afterPrice, atEnd}
+use Rattle.rules.specs.declared.Letters.{Letters}
 use Rattle.rules.specs.declared.Side.{Side}
+
+-- the name and the conditions after it
+unfoldable pub headText : List ℕ → Letters → List ℕ
+headText name x = name ++ afterName x
+
+-- the conditions after the price and at the end
+unfoldable pub tailText : Side → List ℕ
+tailText x = afterPrice (x .letters) ++ atEnd x
 
 -- order: name, volume, price, conditions
 unfoldable pub sideText : List ℕ → ℕ → ℕ → Bool → Bool → Side → List ℕ
 sideText name network unit full shows x =
-    name
-    ++ afterName (x .letters)
+    headText name (x .letters)
     ++ opt shows (volumeText network unit (x .volume))
     ++ priceText full (x .price)
-    ++ afterPrice (x .letters)
-    ++ atEnd x
+    ++ tailText x

@@ -63,6 +63,12 @@ joined {s} {t} {u} {b} {xs} {ys} {at} {n} v w e = rw e (then v w)
 pub named : {s t b a : List ℕ} {n : ℕ} → s ≡ t → Written t b a n → Written s b a n
 named e w = rw e w
 
+pub fits : (s t : List ℕ) (m : ℕ) → length s ≤ m → s ≡ t → length t ≤ m
+fits s t m h e = rw e at h
+
+pub length-named : (s t : List ℕ) (r : ℕ) → s ≡ t → r ≡ length t → r ≡ length s
+length-named s t r e h = rw e h
+
 -- the length of a text of two parts
 pub length-joined : (t u : List ℕ) (r q : ℕ) → r ≡ length t → q ≡ length u → r + q ≡ length (t ++ u)
 length-joined t u r q h k = rw (h, k) (sym (length-append t u))
@@ -98,6 +104,18 @@ length-out t u h = rw h
 pub length-in : (t : Bool) (u : List ℕ) (r : ℕ) → t ≡ true → r ≡ length u → r ≡ length (opt t u)
 unfolding opt
 length-in t u r h e = rw h e
+
+-- where a callee answered the test
+pub told-written : (t q : Bool) (u b a : List ℕ) (r : ℕ) → Written (opt t u) b a r → t ≡ q → Written (opt q u) b a r
+told-written t q u b a r w e = rw e at w
+
+pub told-room : (t q : Bool) (u : List ℕ) (m : ℕ) → t ≡ q → length (opt q u) ≤ m → length (opt t u) ≤ m
+told-room t q u m e l = rw e l
+
+pub told-length : (t q : Bool) (u : List ℕ) (r : ℕ) → r ≡ length (opt t u) → t ≡ q → r ≡ length (opt q u)
+told-length t q u r h e = rw e at h
+
+pub ruleset answers = (told-written, told-room, told-length)
 
 -- a text that may be left out, written, fitted and measured: `search options`
 pub ruleset options = (left-out, put-in, room-in, length-out, length-in, written-nothing)

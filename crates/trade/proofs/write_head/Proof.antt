@@ -1,0 +1,45 @@
+use Rattle.text.proofs.Writing.{rooms, then}
+use Rattle.rules.specs.Side.{headText}
+use borrow.Author.Needs.{needs}
+use Rattle.trade.proofs.write_head.Statement.{statement}
+use Rattle.trade.proofs.write_head.Tie as tie
+
+write-bytes-requires : tie.Need-write-bytes-requires
+unfolding headText
+write-bytes-requires c κs = search rooms depth 9
+
+sub-write-after-name : tie.Need-sub-write-after-name
+sub-write-after-name c = search needs
+
+part-write-after-name-start : tie.Need-part-write-after-name-start
+part-write-after-name-start c = search needs
+
+part-write-after-name-end : tie.Need-part-write-after-name-end
+part-write-after-name-end c = search needs
+
+write-after-name-requires : tie.Need-write-after-name-requires
+unfolding headText
+write-after-name-requires c κs = search rooms depth 9
+
+add-result : tie.Need-add-result
+add-result c = search needs
+
+same-length : tie.Need-same-length
+same-length c = search needs
+
+returns : tie.Need-returns
+unfolding headText
+returns c = search then
+
+pub write-head-spec : {M : Type 1} → statement M
+write-head-spec =
+    tie.close
+    (tie.spec
+    write-bytes-requires
+    sub-write-after-name
+    part-write-after-name-start
+    part-write-after-name-end
+    write-after-name-requires
+    add-result
+    same-length
+    returns)
