@@ -8,7 +8,7 @@ use lib.Dec.{leb, eqb}
 use borrow.Author.Tests.{le-leb, eq-eqb}
 use Rattle.text.specs.Pick.{pick, opt, all}
 use Rattle.text.specs.Decimal.{decimal}
-use Rattle.text.specs.Reading.{Read, found, heads, isDigit, number, before, span, starts, past}
+use Rattle.text.specs.Reading.{Read, found, heads, isDigit, number, before, span, starts, past, taken}
 use Rattle.text.proofs.Texts.{and-left, and-right}
 use Rattle.text.proofs.Decimal.{decimal-small, decimal-big, ten-ind}
 
@@ -64,10 +64,6 @@ pub past-append : (p s : List ℕ) → past p (p ++ s) ≡ s
 unfolding past
 past-append [] s = refl
 past-append (a ∷ p) s = past-append p s
-
--- a text that may be left out: the text p, if it stands there
-unfoldable pub taken : List ℕ → List ℕ → Read Bool
-taken p s = found (starts p s) (pick (starts p s) (past p s) s)
 
 pub taken-opt : (b : Bool) (p s : List ℕ) → starts p s ≡ false → taken p (opt b p ++ s) ≡ found b s
 unfolding taken opt pick

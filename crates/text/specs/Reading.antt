@@ -45,3 +45,7 @@ unfoldable pub past : List ℕ → List ℕ → List ℕ
 past [] s = s
 past (a ∷ p) [] = []
 past (a ∷ p) (c ∷ s) = past p s
+
+-- a text that may be left out: the text p, if it stands there
+unfoldable pub taken : List ℕ → List ℕ → Read Bool
+taken p s = found (starts p s) (pick (starts p s) (past p s) s)

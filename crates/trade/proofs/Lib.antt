@@ -1,0 +1,2 @@
+pub mod TailBack
+pub mod SideBack
