@@ -17,8 +17,9 @@ use Rattle.rules.specs.Price.{wholeText}
 use Rattle.rules.specs.Announcement.{minimumDollars, minimumText, modeText, levelText, stepText}
 use Rattle.rules.specs.declared.Mode.{Mode}
 use Rattle.rules.specs.declared.Mode.the-variants.{Normal, Dvd, Rpo, Mpv}
-use Rattle.figures.specs.Reading.{figures, dotDigit}
-use Rattle.figures.proofs.VolumeBack.{figures-volume, figures-stop}
+use Rattle.volumes.specs.Reading.{figures}
+use Rattle.text.specs.Reading.{dotDigit}
+use Rattle.volumes.proofs.VolumeBack.{figures-volume, figures-stop}
 use Rattle.announcement.specs.Reading.{Told, normal, dvd, rpo, minimum, level, readMinimum, readLevel, readAnnouncement}
 
 -- what is told of a mode

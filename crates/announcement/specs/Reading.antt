@@ -6,7 +6,7 @@ use mathlib.Core.Option.{Option, none, some}
 use Rattle.text.specs.Bytes.{bytes}
 use Rattle.text.specs.Pick.{pick}
 use Rattle.text.specs.Reading.{Read, found, number, starts, past}
-use Rattle.figures.specs.Reading.{figures}
+use Rattle.volumes.specs.Reading.{figures}
 
 -- what an announcement tells: the mode entered, with the MPV level where it is MPV; or the volume delete level
 pub data Told : Type 0 where

@@ -29,14 +29,14 @@ fn minimum_dollars_length(minimum: u64) -> usize
     requires { ⌜ minimum ≤ 100 ⌝ }
     ensures { λ r. ⌜ (r ≡ length (minimumDollars minimum)) × (r ≤ 23) ⌝ }
 {
-    figures::whole_length(5 * minimum / 100) + 1 + 2
+    prices::whole_length(5 * minimum / 100) + 1 + 2
 }
 
 fn write_minimum_dollars(rest: &mut [u8], minimum: u64) -> usize
     requires { ⌜ (minimum ≤ 100) × (length (minimumDollars minimum) ≤ length (now rest)) ⌝ }
     ensures { λ r. ⌜ Written (minimumDollars minimum) (now (rest .entry)) (now (rest .exit)) r ⌝ }
 {
-    let at = figures::write_whole(rest, 5 * minimum / 100);
+    let at = prices::write_whole(rest, 5 * minimum / 100);
     let at2 = at + text::write_bytes(&mut rest[at..], b",");
     at2 + text::write_places(&mut rest[at2..], 5 * minimum, 2)
 }
@@ -113,7 +113,7 @@ pub fn write_mode(rest: &mut [u8], m: Mode, minimum: u64) -> usize
 pub fn level_length(level: u64) -> usize
     ensures { λ r. ⌜ (r ≡ length (levelText level)) × (r ≤ 63) ⌝ }
 {
-    29 + figures::full_volume_length(level) + 6
+    29 + volumes::full_volume_length(level) + 6
 }
 
 pub fn write_level(rest: &mut [u8], level: u64) -> usize
@@ -123,7 +123,7 @@ pub fn write_level(rest: &mut [u8], level: u64) -> usize
     let first = LEVEL;
     let last = LEVEL_END;
     let at = text::write_bytes(rest, &first);
-    let at2 = at + figures::write_full_volume(&mut rest[at..], level);
+    let at2 = at + volumes::write_full_volume(&mut rest[at..], level);
     at2 + text::write_bytes(&mut rest[at2..], &last)
 }
 

@@ -7,7 +7,7 @@ use mathlib.Core.Bool.{Bool, true, false, _&&_, _||_, not}
 use lib.Dec.{leb, eqb}
 use borrow.Author.Tests.{le-leb, eq-eqb}
 use Rattle.text.specs.Pick.{pick, opt, all}
-use Rattle.text.specs.Decimal.{decimal}
+use Rattle.text.specs.Decimal.{places, decimal}
 use Rattle.text.specs.Reading.{Read, found, heads, isDigit, number, before, span, starts, past, taken}
 use Rattle.text.proofs.Texts.{and-left, and-right}
 use Rattle.text.proofs.Decimal.{decimal-small, decimal-big, ten-ind}
@@ -75,3 +75,9 @@ pub not-opt : (b : Bool) (p q s : List ℕ) → starts p (q ++ s) ≡ false → 
 unfolding opt
 not-opt true p q s h k = h
 not-opt false p q s h k = k
+
+-- fixed places begin with a digit
+pub places-head : (d n : ℕ) (s : List ℕ) → heads isDigit (places (suc d) n ++ s) ≡ true
+unfolding places
+places-head zero n s = digit-yes (n % 10) (omega arith)
+places-head (suc d) n s = rw append-assoc (places-head d (n / 10) ((48 + n % 10) ∷ s))

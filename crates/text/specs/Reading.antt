@@ -49,3 +49,8 @@ past (a ∷ p) (c ∷ s) = past p s
 -- a text that may be left out: the text p, if it stands there
 unfoldable pub taken : List ℕ → List ℕ → Read Bool
 taken p s = found (starts p s) (pick (starts p s) (past p s) s)
+
+-- a figure dot and a digit
+unfoldable pub dotDigit : List ℕ → Bool
+dotDigit [] = false
+dotDigit (c ∷ s) = eqb c 44 && heads isDigit s

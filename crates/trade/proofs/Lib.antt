@@ -1,2 +1,1 @@
-pub mod TailBack
 pub mod SideBack

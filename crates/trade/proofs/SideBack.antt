@@ -20,11 +20,14 @@ use Rattle.rules.specs.Price.{wholePart, fraction, wholeText, fractionText, sho
 use Rattle.rules.specs.Side.{headText, tailText, sideText}
 use Rattle.rules.specs.declared.Price.{Price}
 use Rattle.rules.specs.declared.Side.{Side}
-use Rattle.figures.specs.Reading.{Figure, digit, dot, stop, figure, figures, markAt, markText, Shown, unsaid, said, shownOf, shownText, readVolume, readPrice, shownPrice, dotDigit}
-use Rattle.figures.proofs.VolumeBack.{figures-digit, figures-dot, figures-stop, volume-back, volume-shown, shown-back, shown-within, Within, unsaid-within}
-use Rattle.figures.proofs.PriceBack.{NoMore, price-back, places-dot}
-use Rattle.trade.specs.Reading.{readTail, SideRead, readSide, sideShown}
-use Rattle.trade.proofs.TailBack.{Ends, tail-back, tail-digit, tail-dot, tail-mark}
+use Rattle.volumes.specs.Reading.{Figure, digit, dot, stop, figure, figures, markAt, markText, Shown, unsaid, said, shownOf, shownText, readVolume}
+use Rattle.prices.specs.Reading.{readPrice, shownPrice}
+use Rattle.text.specs.Reading.{dotDigit}
+use Rattle.volumes.proofs.VolumeBack.{figures-digit, figures-dot, figures-stop, volume-back, volume-shown, shown-back, shown-within, Within, unsaid-within}
+use Rattle.prices.proofs.PriceBack.{NoMore, price-back, places-dot}
+use Rattle.conditions.specs.Reading.{readTail}
+use Rattle.trade.specs.Reading.{SideRead, readSide, sideShown}
+use Rattle.conditions.proofs.TailBack.{Ends, tail-back, tail-digit, tail-dot, tail-mark}
 
 -- ---- where the figures of a price end
 

@@ -1,4 +1,0 @@
-pub mod Volumes
-pub mod Prices
-pub mod VolumeBack
-pub mod PriceBack
