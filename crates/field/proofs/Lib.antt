@@ -1,0 +1,4 @@
+pub mod Told
+pub mod Numbers
+pub mod Texts
+pub mod Letters

@@ -1,0 +1,4 @@
+pub mod Root
+pub mod Parts
+pub mod Back
+pub mod Letters

@@ -1,0 +1,144 @@
+-- Laws of a name's parts, their lengths and writers, in the form that the code's needs have. Assumes nothing.
+use Prim.Native.Nat.{ℕ, zero, suc, _+_, _-_, _≤_, _<_}
+use native.Mathlib.Nat.{not-suc-le-zero}
+use native.Mathlib.Omega.{arith}
+use mathlib.Core.Path.{_≡_, refl, sym, ap, _∙_}
+use mathlib.Core.Bool.{Bool, true, false, not}
+use mathlib.Core.List.{List, [], _∷_, _++_}
+use lib.ListN.{length, getD, take, drop, length-append, length-take, length-drop}
+use lib.Seq.{length-take-le, take-at}
+use lib.Dec.{eqb}
+use borrow.Author.Tests.{eqb-true, eqb-false}
+use Rattle.text.specs.Bytes.{bytes}
+use Rattle.text.specs.Pick.{opt, same}
+use Rattle.text.specs.Put.{put, Written}
+use Rattle.text.proofs.Writing.{written-nothing}
+use Rattle.rules.specs.Tape.{isRaised}
+use Rattle.rules.specs.Columns.{word}
+use Rattle.rules.specs.Names.{rootField, suffixField, temporaryField, appendageField, partText, nameText, hasTemporary}
+use Rattle.symbol.specs.Word.{WordOf}
+use Rattle.symbol.proofs.Fields.{word-blank, word-byte, word-nothing}
+use Rattle.symbol.proofs.Lawful.{unlike-nothing}
+
+-- ---- a part: n bytes of its field, with the letter dot or without
+
+part-none : (s : List ℕ) (n : ℕ) → WordOf s n → n ≡ 0 → partText (word s) ≡ []
+unfolding partText
+part-none s n w z = rw (w .text-is, z)
+
+part-raised : (s : List ℕ) (n : ℕ) (q : Bool) → WordOf s n → (n ≡ 0 → ⊥) → q ≡ isRaised (getD s 0 0) → q ≡ true → partText (word s) ≡ take n s
+unfolding partText opt
+part-raised s zero q w z e y = absurd (z refl)
+part-raised [] (suc n) q w z e y = absurd (not-suc-le-zero (w .within))
+part-raised (c ∷ s) (suc n) q w z e y = rw (w .text-is, ← e, y)
+
+part-dotted : (s : List ℕ) (n : ℕ) (q : Bool) → WordOf s n → (n ≡ 0 → ⊥) → q ≡ isRaised (getD s 0 0) → q ≡ false → partText (word s) ≡ bytes "." ++ take n s
+unfolding partText opt
+part-dotted s zero q w z e y = absurd (z refl)
+part-dotted [] (suc n) q w z e y = absurd (not-suc-le-zero (w .within))
+part-dotted (c ∷ s) (suc n) q w z e y = rw (w .text-is, ← e, y)
+
+module _ (s : List ℕ) (n : ℕ) (w : WordOf s n) where
+  pub length-none : n ≡ 0 → 0 ≡ length (partText (word s))
+  length-none z = rw (part-none s n w z)
+
+  pub written-none : (b : List ℕ) → n ≡ 0 → Written (partText (word s)) b b 0
+  written-none b z = rw (part-none s n w z) (written-nothing b)
+
+  module _ (q : Bool) (z : n ≡ 0 → ⊥) (e : q ≡ isRaised (getD s 0 0)) where
+    pub length-raised : q ≡ true → n ≡ length (partText (word s))
+    length-raised y = rw (part-raised s n q w z e y, length-take-le n s (w .within))
+
+    pub length-dotted : q ≡ false → n + 1 ≡ length (partText (word s))
+    length-dotted y = rw (part-dotted s n q w z e y, length-take-le n s (w .within)) (omega arith)
+
+    pub room-raised : (m : ℕ) → q ≡ true → length (partText (word s)) ≤ m → length (take n s) ≤ m
+    room-raised m y h = rw (part-raised s n q w z e y) at h
+
+    pub room-dotted : (m : ℕ) → q ≡ false → length (partText (word s)) ≤ m → length (bytes "." ++ take n s) ≤ m
+    room-dotted m y h = rw (part-dotted s n q w z e y) at h
+
+    pub written-raised : (b a : List ℕ) (r : ℕ) → q ≡ true → Written (take n s) b a r → Written (partText (word s)) b a r
+    written-raised b a r y v = rw (part-raised s n q w z e y) v
+
+    pub written-dotted : (b a : List ℕ) (r : ℕ) → q ≡ false → Written (bytes "." ++ take n s) b a r → Written (partText (word s)) b a r
+    written-dotted b a r y v = rw (part-dotted s n q w z e y) v
+
+pub written-word : (s : List ℕ) (n : ℕ) (b a : List ℕ) (r : ℕ) → WordOf s n → Written (take n s) b a r → Written (word s) b a r
+written-word s n b a r w v = rw (w .text-is) v
+
+pub room-word : (s : List ℕ) (n m : ℕ) → WordOf s n → length (word s) ≤ m → length (take n s) ≤ m
+room-word s n m w h = rw (w .text-is) at h
+
+-- ---- the temporary suffix
+
+pub temporary-no : (s : List ℕ) (n : ℕ) → WordOf (temporaryField s) n → n ≡ 0 → false ≡ hasTemporary s
+unfolding hasTemporary same
+temporary-no s n w z = rw (w .text-is, z)
+
+pub temporary-yes : (s : List ℕ) (n : ℕ) → WordOf (temporaryField s) n → (n ≡ 0 → ⊥) → true ≡ hasTemporary s
+unfolding hasTemporary
+temporary-yes s n w z = rw (unlike-nothing (word (temporaryField s)) (λ h. z (w .count-is ∙ h)))
+
+-- ---- the whole name
+
+word-short : (s : List ℕ) → length (word s) ≤ length s
+word-short [] = rw word-nothing (omega arith)
+word-short (c ∷ s) = go (eqb c 32) refl (word-short s)
+  where
+    go : (b : Bool) → eqb c 32 ≡ b → length (word s) ≤ length s → length (word (c ∷ s)) ≤ suc (length s)
+    go true e ih = rw (word-blank c s (eqb-true c 32 e)) (omega arith)
+    go false e ih = rw (word-byte c s (eqb-false c 32 e)) (omega arith)
+
+part-short : (t : List ℕ) → length (partText t) ≤ length t + 1
+unfolding partText opt
+part-short [] = omega arith
+part-short (c ∷ t) = go (isRaised c) refl
+  where
+    go : (b : Bool) → isRaised c ≡ b → length (opt (not (isRaised c)) (bytes ".") ++ (c ∷ t)) ≤ suc (length t) + 1
+    go true e = rw e (omega arith)
+    go false e = rw e (omega arith)
+
+opt-short : (b : Bool) (t : List ℕ) → length (opt b t) ≤ length t
+unfolding opt
+opt-short true t = omega arith
+opt-short false t = omega arith
+
+-- the length is the sum of the parts'
+pub name-sum : (b : Bool) (s : List ℕ) → length (nameText b s) ≡ length (word (rootField s)) + length (partText (word (suffixField s))) + length (opt b (partText (word (temporaryField s)))) + length (partText (word (appendageField s)))
+unfolding nameText
+name-sum b s = simp length-append
+
+-- no name is longer than 22
+pub name-short : (b : Bool) (s : List ℕ) → length s ≡ 19 → length (nameText b s) ≤ 22
+name-short b s h =
+    let q = part-short (word (suffixField s)) in
+    let t = part-short (word (temporaryField s)) in
+    let a = part-short (word (appendageField s)) in
+    let o = opt-short b (partText (word (temporaryField s))) in
+    let lr : length (rootField s) ≡ 6 = simp (length-take, h) in
+    let ls : length (suffixField s) ≡ 7 = simp (length-take, length-drop, h) in
+    let lt : length (temporaryField s) ≡ 4 = simp (length-take, length-drop, h) in
+    let la : length (appendageField s) ≡ 2 = simp (length-take, length-drop, h) in
+    rw name-sum (omega (arith, word-short (rootField s), word-short (suffixField s), word-short (temporaryField s), word-short (appendageField s)))
+
+module _ (b : Bool) (s : List ℕ) (k l m n : ℕ) (w : WordOf (rootField s) k) (x : l ≡ length (partText (word (suffixField s)))) (y : m ≡ length (opt b (partText (word (temporaryField s))))) (z : n ≡ length (partText (word (appendageField s)))) where
+  pub counted : k + l + m + n ≡ length (nameText b s)
+  counted = rw (name-sum, w .count-is, x, y, z)
+
+pub counted-short : (b : Bool) (s : List ℕ) (n : ℕ) → length s ≡ 19 → n ≡ length (nameText b s) → (n ≡ length (nameText b s)) × (n ≤ 22)
+counted-short b s n h e = (e, omega (arith, name-short b s h))
+
+pub name-fits : (b : Bool) (s : List ℕ) → length s ≡ 19 → length (nameText b s) ≤ 24
+name-fits b s h = omega (arith, name-short b s h)
+
+-- what a writer of the text t left, cut out again
+pub cut-out : (t b a : List ℕ) (n : ℕ) → Written t b a n → take n a ≡ t
+unfolding put
+cut-out t b a n w = rw (w .tape) (take-at t (drop (length t) b) n (sym (w .count-is)))
+
+pub cut-length : (t b a : List ℕ) (n : ℕ) → Written t b a n → n ≡ length (take n a)
+cut-length t b a n w = rw (cut-out t b a n w) (w .count-is)
+
+pub same-cut : (t u b c x y : List ℕ) (m n : ℕ) (r : Bool) → Written t b x m → Written u c y n → r ≡ same (take m x) (take n y) → r ≡ same t u
+same-cut t u b c x y m n r v w e = e ∙ rw (cut-out t b x m v, cut-out u c y n w)
