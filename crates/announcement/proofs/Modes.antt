@@ -1,5 +1,5 @@
 -- Laws of the announcements, mode by mode, in the form of the code's needs. Assumes nothing.
-use Prim.Native.Nat.{ℕ, _-_, _*_, _/_, _≤_}
+use Prim.Native.Nat.{ℕ, _-_, _*_, _/_, _%_, _≤_}
 use native.Mathlib.Omega.{arith}
 use mathlib.Core.Path.{_≡_, refl, sym, ap, _∙_}
 use mathlib.Core.List.{List, [], _++_}
@@ -17,9 +17,23 @@ use Rattle.rules.specs.declared.Mode.the-variants.{Normal, Dvd, Rpo, Mpv}
 pub two-places : (n : ℕ) → 2 ≡ length (places 2 n)
 two-places n = sym (length-places 2 n)
 
-pub places-room : (k : ℕ) {b xs : List ℕ} {at : ℕ} → length (minimumDollars k) ≤ length b → Written (wholeText (5 * k / 100) ++ bytes ",") b xs at → 2 ≤ length (take (length xs - at) (drop at xs))
+pub places-room : (w c : ℕ) {b xs : List ℕ} {at : ℕ} → length (wholeText w ++ bytes "," ++ places 2 c) ≤ length b → Written (wholeText w ++ bytes ",") b xs at → 2 ≤ length (take (length xs - at) (drop at xs))
+places-room w c h v = omega (arith, two-places c, room (places 2 c) v h)
+
+-- two places go by the number below a hundred
+places-below : (m n : ℕ) → m % 100 ≡ n % 100 → places 2 m ≡ places 2 n
+unfolding places
+places-below m n e =
+    let p : m / 10 % 10 ≡ n / 10 % 10 = omega arith in
+    let q : m % 10 ≡ n % 10 = omega arith in
+    rw (p, q)
+
+-- five cents a level: a dollar has twenty
+pub dollars-is : (k : ℕ) → minimumDollars k ≡ wholeText (k / 20) ++ bytes "," ++ places 2 (k % 20 * 5)
 unfolding minimumDollars
-places-room k h w = omega (arith, two-places (5 * k), room (places 2 (5 * k)) w h)
+dollars-is k =
+    let w : 5 * k / 100 ≡ k / 20 = omega arith in
+    rw (w, places-below (5 * k) (k % 20 * 5) (omega arith))
 
 module _ (m : Mode) (k : ℕ) where
   pub mode-normal : m ≡ Normal → modeText m k ≡ bytes "<<<TICKER.MODE.NORMAL>>"

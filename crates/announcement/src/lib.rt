@@ -1,12 +1,13 @@
 // Announcements (document 01, "Announcements"): fixed byte strings with a figure between; the length of each and its writer.
 use rules::Mode;
 ghost use mathlib.Core.Path.{_≡_};
-ghost use Prim.Native.Nat.{_+_, _*_, _≤_};
+ghost use Prim.Native.Nat.{_≤_};
 ghost use mathlib.Core.List.{_++_};
 ghost use lib.ListN.{length};
 ghost use Rattle.text.specs.Bytes.{bytes};
 ghost use Rattle.text.specs.Put.{Written};
 ghost use Rattle.text.specs.Decimal.{places};
+ghost use Rattle.rules.specs.Price.{wholeText};
 ghost use Rattle.rules.specs.Announcement.{minimumDollars, minimumText, modeText, levelText, stepText};
 
 // The texts, shared by the writers here and by whoever compares a tape with them.
@@ -24,33 +25,39 @@ pub const LEVEL: [u8; 29] = *b"<<<VOLUME.DELETE.LEVEL.IS.NOW";
 
 pub const LEVEL_END: [u8; 6] = *b"SHRS>>";
 
+// w dollars and c cents.
+fn write_cents(rest: &mut [u8], w: u64, c: u64) -> usize
+    requires { ⌜ length (wholeText w ++ bytes "," ++ places 2 c) ≤ length (now rest) ⌝ }
+    ensures { λ r. ⌜ Written (wholeText w ++ bytes "," ++ places 2 c) (now (rest .entry)) (now (rest .exit)) r ⌝ }
+{
+    let at = prices::write_whole(rest, w);
+    let at2 = at + text::write_bytes(&mut rest[at..], b",");
+    at2 + text::write_places(&mut rest[at2..], c, 2)
+}
+
 // level × 0.05, two decimals.
 fn minimum_dollars_length(minimum: u64) -> usize
-    requires { ⌜ minimum ≤ 100 ⌝ }
     ensures { λ r. ⌜ (r ≡ length (minimumDollars minimum)) × (r ≤ 23) ⌝ }
 {
-    prices::whole_length(5 * minimum / 100) + 1 + 2
+    prices::whole_length(minimum / 20) + 1 + 2
 }
 
 fn write_minimum_dollars(rest: &mut [u8], minimum: u64) -> usize
-    requires { ⌜ (minimum ≤ 100) × (length (minimumDollars minimum) ≤ length (now rest)) ⌝ }
+    requires { ⌜ length (minimumDollars minimum) ≤ length (now rest) ⌝ }
     ensures { λ r. ⌜ Written (minimumDollars minimum) (now (rest .entry)) (now (rest .exit)) r ⌝ }
 {
-    let at = prices::write_whole(rest, 5 * minimum / 100);
-    let at2 = at + text::write_bytes(&mut rest[at..], b",");
-    at2 + text::write_places(&mut rest[at2..], 5 * minimum, 2)
+    write_cents(rest, minimum / 20, minimum % 20 * 5)
 }
 
 // The minimum price change in MPV.
 pub fn minimum_length(minimum: u64) -> usize
-    requires { ⌜ minimum ≤ 100 ⌝ }
     ensures { λ r. ⌜ (r ≡ length (minimumText minimum)) × (r ≤ 54) ⌝ }
 {
     29 + minimum_dollars_length(minimum) + 2
 }
 
 pub fn write_minimum(rest: &mut [u8], minimum: u64) -> usize
-    requires { ⌜ (minimum ≤ 100) × (length (minimumText minimum) ≤ length (now rest)) ⌝ }
+    requires { ⌜ length (minimumText minimum) ≤ length (now rest) ⌝ }
     ensures { λ r. ⌜ Written (minimumText minimum) (now (rest .entry)) (now (rest .exit)) r ⌝ }
 {
     let first = MINIMUM;
@@ -62,7 +69,6 @@ pub fn write_minimum(rest: &mut [u8], minimum: u64) -> usize
 
 // M: the mode entered.
 pub fn mode_length(m: Mode, minimum: u64) -> usize
-    requires { ⌜ minimum ≤ 100 ⌝ }
     ensures { λ r. ⌜ (r ≡ length (modeText m minimum)) × (r ≤ 54) ⌝ }
 {
     match m {
@@ -98,7 +104,7 @@ fn write_rpo(rest: &mut [u8]) -> usize
 }
 
 pub fn write_mode(rest: &mut [u8], m: Mode, minimum: u64) -> usize
-    requires { ⌜ (minimum ≤ 100) × (length (modeText m minimum) ≤ length (now rest)) ⌝ }
+    requires { ⌜ length (modeText m minimum) ≤ length (now rest) ⌝ }
     ensures { λ r. ⌜ Written (modeText m minimum) (now (rest .entry)) (now (rest .exit)) r ⌝ }
 {
     match m {
@@ -129,7 +135,6 @@ pub fn write_level(rest: &mut [u8], level: u64) -> usize
 
 // P: the minimum while in MPV, otherwise nothing.
 pub fn step_length(m: Mode, minimum: u64) -> usize
-    requires { ⌜ minimum ≤ 100 ⌝ }
     ensures { λ r. ⌜ (r ≡ length (stepText m minimum)) × (r ≤ 54) ⌝ }
 {
     match m {
@@ -141,7 +146,7 @@ pub fn step_length(m: Mode, minimum: u64) -> usize
 }
 
 pub fn write_step(rest: &mut [u8], m: Mode, minimum: u64) -> usize
-    requires { ⌜ (minimum ≤ 100) × (length (stepText m minimum) ≤ length (now rest)) ⌝ }
+    requires { ⌜ length (stepText m minimum) ≤ length (now rest) ⌝ }
     ensures { λ r. ⌜ Written (stepText m minimum) (now (rest .entry)) (now (rest .exit)) r ⌝ }
 {
     match m {

@@ -38,13 +38,17 @@ pub record Day : Type 0 where
 unfoldable pub vacant : Security
 vacant = record { unit = 0; network = 0; market = 0; first = 0; printed = 0; high = 0; low = 0; last = 0; trades = 0; qualified = 0; primaries = 0 }
 
+-- no name: a place's 19 columns before an S line
+unfoldable pub noName : List ℕ
+noName = replicate 19 0
+
 -- a day opens normal, level 5,000, MPV level 1
 unfoldable pub opened : ℕ → Settings
 opened date = record { date = date; mode = Normal; level = 5000; minimum = 1 }
 
 -- a D line clears table, settings and day state
 unfoldable pub cleared : ℕ → Day
-cleared date = record { settings = opened date; securities = replicate 512 vacant; names = replicate 512 [] }
+cleared date = record { settings = opened date; securities = replicate 512 vacant; names = replicate 512 noName }
 
 -- a fresh state: no D accepted yet
 unfoldable pub fresh : Day
@@ -55,7 +59,7 @@ abbrev pub securityAt : Day → ℕ → Security
 securityAt day i = getD (day .securities) (i - 1) vacant
 
 abbrev pub nameAt : Day → ℕ → List ℕ
-nameAt day i = getD (day .names) (i - 1) []
+nameAt day i = getD (day .names) (i - 1) noName
 
 unfoldable pub isEntered : Security → Bool
 isEntered s = not (eqb (s .unit) 0)

@@ -1,12 +1,8 @@
-use Rattle.text.proofs.Writing.{length-joined}
-use Rattle.announcement.proofs.Modes.{two-places}
-use Rattle.rules.specs.Announcement.{minimumDollars}
+use Rattle.text.proofs.Writing.{length-named, length-joined}
+use Rattle.announcement.proofs.Modes.{two-places, dollars-is}
 use borrow.Author.Needs.{needs}
 use Rattle.announcement.proofs.minimum_dollars_length.Statement.{statement}
 use Rattle.announcement.proofs.minimum_dollars_length.Tie as tie
-
-mul-whole-length : tie.Need-mul-whole-length
-mul-whole-length c = search needs
 
 whole-length-requires : tie.Need-whole-length-requires
 whole-length-requires c κs = search needs
@@ -18,9 +14,8 @@ add-result-2 : tie.Need-add-result-2
 add-result-2 c = search needs
 
 returns : tie.Need-returns
-unfolding minimumDollars
-returns c = (search (length-joined, two-places), search needs)
+returns c = (search (length-named, length-joined, two-places, dollars-is), search needs)
 
 pub minimum-dollars-length-spec : {M : Type 1} → statement M
 minimum-dollars-length-spec =
-    tie.close (tie.spec mul-whole-length whole-length-requires add-result add-result-2 returns)
+    tie.close (tie.spec whole-length-requires add-result add-result-2 returns)

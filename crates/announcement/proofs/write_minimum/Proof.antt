@@ -22,7 +22,7 @@ part-write-minimum-dollars-end c = search needs
 
 write-minimum-dollars-requires : tie.Need-write-minimum-dollars-requires
 unfolding minimumText
-write-minimum-dollars-requires c κs = (search needs, search rooms depth 9)
+write-minimum-dollars-requires c κs = search rooms depth 9
 
 add-at2 : tie.Need-add-at2
 add-at2 c = search needs

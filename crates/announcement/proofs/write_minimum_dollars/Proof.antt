@@ -1,78 +1,21 @@
-use Rattle.text.proofs.Writing.{rooms, then}
-use Rattle.announcement.proofs.Modes.{places-room}
-use Rattle.rules.specs.Announcement.{minimumDollars}
+use Rattle.text.proofs.Writing.{named, fits}
+use Rattle.announcement.proofs.Modes.{dollars-is}
 use borrow.Author.Needs.{needs}
 use Rattle.announcement.proofs.write_minimum_dollars.Statement.{statement}
 use Rattle.announcement.proofs.write_minimum_dollars.Tie as tie
 
-mul-write-whole : tie.Need-mul-write-whole
-mul-write-whole c = search needs
+mul-write-cents : tie.Need-mul-write-cents
+mul-write-cents c = search needs
 
-write-whole-requires : tie.Need-write-whole-requires
-unfolding minimumDollars
-write-whole-requires c κs = search rooms depth 9
-
-sub-write-bytes : tie.Need-sub-write-bytes
-sub-write-bytes c = search needs
-
-part-write-bytes-start : tie.Need-part-write-bytes-start
-part-write-bytes-start c = search needs
-
-part-write-bytes-end : tie.Need-part-write-bytes-end
-part-write-bytes-end c = search needs
-
-slice-aggregate-write-bytes : tie.Need-slice-aggregate-write-bytes
-slice-aggregate-write-bytes c = search needs
-
-write-bytes-requires : tie.Need-write-bytes-requires
-unfolding minimumDollars
-write-bytes-requires c κs = search rooms depth 9
-
-add-at2 : tie.Need-add-at2
-add-at2 c = search needs
-
-sub-write-places : tie.Need-sub-write-places
-sub-write-places c = search needs
-
-part-write-places-start : tie.Need-part-write-places-start
-part-write-places-start c = search needs
-
-part-write-places-end : tie.Need-part-write-places-end
-part-write-places-end c = search needs
-
-mul-write-places : tie.Need-mul-write-places
-mul-write-places c = search needs
-
-write-places-requires : tie.Need-write-places-requires
-write-places-requires c κs = search (places-room, then)
-
-add-result : tie.Need-add-result
-add-result c = search needs
+write-cents-requires : tie.Need-write-cents-requires
+write-cents-requires c κs = search (fits, dollars-is)
 
 same-length : tie.Need-same-length
 same-length c = search needs
 
 returns : tie.Need-returns
-unfolding minimumDollars
-returns c = search then
+returns c = search (named, dollars-is)
 
 pub write-minimum-dollars-spec : {M : Type 1} → statement M
 write-minimum-dollars-spec =
-    tie.close
-    (tie.spec
-    mul-write-whole
-    write-whole-requires
-    sub-write-bytes
-    part-write-bytes-start
-    part-write-bytes-end
-    slice-aggregate-write-bytes
-    write-bytes-requires
-    add-at2
-    sub-write-places
-    part-write-places-start
-    part-write-places-end
-    mul-write-places
-    write-places-requires
-    add-result
-    same-length
-    returns)
+    tie.close (tie.spec mul-write-cents write-cents-requires same-length returns)

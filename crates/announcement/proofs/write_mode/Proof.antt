@@ -26,7 +26,7 @@ enum-told-4 : tie.Need-enum-told-4
 enum-told-4 c = search needs
 
 write-minimum-requires : tie.Need-write-minimum-requires
-write-minimum-requires c κs = (search needs, search (fits, modes))
+write-minimum-requires c κs = search (fits, modes)
 
 same-length : tie.Need-same-length
 same-length c = search needs

@@ -17,7 +17,7 @@ enum-told-4 : tie.Need-enum-told-4
 enum-told-4 c = search needs
 
 write-minimum-requires : tie.Need-write-minimum-requires
-write-minimum-requires c κs = (search needs, search (fits, steps))
+write-minimum-requires c κs = search (fits, steps)
 
 returns : tie.Need-returns
 returns c = search (named, steps, written-nothing)

@@ -8,6 +8,7 @@ use Rattle.rules.specs.Columns.{digitsFrom}
 use Rattle.field.proofs.Numbers.{low, high, digit, last, small, grows}
 use Rattle.field.proofs.digits.Statement.{statement}
 use Rattle.field.proofs.digits.Tie as tie
+
 abbrev Inv-loop : tie.InvT-loop
 Inv-loop field acc₀ i₀ acc i = (i ≤ length field) × (digitsFrom acc (drop i field) ≡ digitsFrom 0 field) × (acc < 10 ^ i)
 
