@@ -1,0 +1,22 @@
+use Rattle.decision.proofs.Answers.{answers}
+use Rattle.rules.specs.Qualifying.{forLast}
+use borrow.Author.Needs.{needs}
+use Rattle.decision.proofs.for_last.Statement.{statement}
+use Rattle.decision.proofs.for_last.Tie as tie
+
+for-neither-requires : tie.Need-for-neither-requires
+for-neither-requires c κs = search needs
+
+returns : tie.Need-returns
+unfolding forLast
+returns c = search answers
+
+for-range-only-requires : tie.Need-for-range-only-requires
+for-range-only-requires c κs = search needs
+
+returns-2 : tie.Need-returns-2
+unfolding forLast
+returns-2 c = search answers
+
+pub for-last-spec : {M : Type 1} → statement M
+for-last-spec = tie.close (tie.spec for-neither-requires returns for-range-only-requires returns-2)
