@@ -1,0 +1,123 @@
+-- What a line within its values owes: a security's number, a sound price. Assumes nothing.
+use Prim.Native.Nat.{ℕ, _+_, _^_, _≤_, _<_}
+use native.Mathlib.Omega.{arith}
+use mathlib.Core.Path.{_≡_, refl, sym, ap, _∙_}
+use mathlib.Core.Bool.{Bool, true, false, _&&_, _||_, not}
+use mathlib.Core.List.{List, [], _∷_}
+use lib.Dec.{leb, ltb, eqb}
+use lib.ListN.{length, take, drop, length-take, length-drop}
+use borrow.Author.Tests.{leb-true, ltb-true, eqb-true, not-true, not-false}
+use Rattle.text.specs.Pick.{pick}
+use Rattle.text.proofs.Tests.{pick-yes, pick-no}
+use Rattle.text.proofs.Texts.{and-left, and-right}
+use Rattle.rules.specs.Columns.{column, numberIn, valueOf, passes, between}
+use Rattle.rules.specs.Line.{isShaped, isPrintable, isFormed, isRanged, lineOf, ofKind, nameColumns, isPrice, previousRanged, sideRanged, sideOf, volumeIn, priceIn, decimalsIn, daysIn, previousIn, previousDecimalsIn, isSecurityNumber, isUnit, listingRanged, listingOf, tradeRanged, tradeOf}
+use Rattle.rules.specs.declared.Number.{Number}
+use Rattle.rules.specs.declared.Number.the-variants.{Blank, Bad, Is}
+use Rattle.rules.specs.declared.Parsed.{Parsed}
+use Rattle.rules.specs.declared.Settings.{Settings}
+use Rattle.rules.specs.declared.Refusal.the-variants.{Form, Value}
+use Rattle.prices.specs.Sound.{Sound}
+use Rattle.planner.specs.declared.Plan.{Plan}
+use Rattle.planner.specs.declared.Plan.the-variants.{Stop}
+use Rattle.planner.specs.Plan.{linePlan, readPlan, SoundListing, SoundTrade, SoundLine}
+
+sound-price : (n d : ℕ) → isPrice n d ≡ true → Sound (record { n = n; d = d })
+unfolding isPrice
+sound-price n d h =
+    let r = and-right (leb 1 n) (leb d 8 && ltb n (10 ^ (6 + d))) h in
+    record { decimals = leb-true d 8 (and-left (leb d 8) (ltb n (10 ^ (6 + d))) r); small = ltb-true n (10 ^ (6 + d)) (and-right (leb d 8) (ltb n (10 ^ (6 + d))) r) }
+
+few-decimals : (n d : Number) → previousRanged n d ≡ true → valueOf d ≤ 8
+unfolding previousRanged passes valueOf
+few-decimals Blank Blank h = omega arith
+few-decimals Blank Bad h = omega arith
+few-decimals Blank (Is d) h = leb-true d 8 h
+few-decimals Bad Blank h = omega arith
+few-decimals Bad Bad h = omega arith
+few-decimals Bad (Is d) h = leb-true d 8 h
+few-decimals (Is n) Blank h = omega arith
+few-decimals (Is n) Bad h = omega arith
+few-decimals (Is n) (Is d) h = (sound-price n d h) .decimals
+
+sound-number : (n : ℕ) → isSecurityNumber n ≡ true → (1 ≤ n) × (n ≤ 512)
+unfolding isSecurityNumber between
+sound-number n h = (leb-true 1 n (and-left (leb 1 n) (leb n 512) h), leb-true n 512 (and-right (leb 1 n) (leb n 512) h))
+
+sound-side : (side : List ℕ) → sideRanged side ≡ true → Sound ((sideOf side) .price) × ((sideOf side) .previous .d ≤ 8)
+unfolding sideRanged sideOf
+sound-side side h =
+    let r = and-right (leb 1 (valueOf (volumeIn side))) _ h in
+    let p = and-left (isPrice (valueOf (priceIn side)) (valueOf (decimalsIn side))) _ r in
+    let q = and-right (isPrice (valueOf (priceIn side)) (valueOf (decimalsIn side))) _ r in
+    (sound-price (valueOf (priceIn side)) (valueOf (decimalsIn side)) p, few-decimals (previousIn side) (previousDecimalsIn side) (and-right (passes (leb 1) (daysIn side)) _ q))
+
+sound-trade : (line : List ℕ) → tradeRanged line ≡ true → SoundTrade (tradeOf line)
+unfolding tradeRanged tradeOf
+sound-trade line h =
+    let n = sound-number _ (and-left (isSecurityNumber _) _ h) in
+    let s = sound-side _ (and-right (isSecurityNumber _) _ h) in
+    record { low = n .0; high = n .1; price = s .0; previous = s .1 }
+
+sound-listing : (line : List ℕ) → listingRanged line ≡ true → SoundListing (listingOf line)
+unfolding listingRanged listingOf
+sound-listing line h = let n = sound-number _ (and-left (isSecurityNumber _) _ h) in record { low = n .0; high = n .1 }
+
+-- of every kind
+abbrev Owes : Parsed → Type 0
+Owes p = p .ranged ≡ true → SoundLine (p .line)
+
+either : (b : Bool) (p q : Parsed) → Owes p → Owes q → Owes (pick b p q)
+unfolding pick
+either true p q f g = f
+either false p q f g = g
+
+owed : (kind : ℕ) (line : List ℕ) → Owes (ofKind kind line)
+unfolding ofKind SoundLine
+owed kind line =
+    either _ _ _ (λ h. tt)
+    (either _ _ _ (λ h. sound-listing line h)
+    (either _ _ _ (λ h. tt)
+    (either _ _ _ (λ h. tt)
+    (either _ _ _ (λ h. tt)
+    (either _ _ _ (λ h. sound-trade line h)
+    (either _ _ _ (λ h. tt)
+    (either _ _ _ (λ h. tt) (λ h. tt))))))))
+
+module _ (line : List ℕ) (p : Parsed) (read : p ≡ ofKind (column 1 line) line) where
+  pub sound-line : not (p .ranged) ≡ false → SoundLine (p .line)
+  sound-line h = rw read (owed (column 1 line) line (rw read at (not-false (p .ranged) h)))
+
+  formed-is : isFormed line ≡ p .formed
+  unfolding isFormed
+  formed-is = ap (λ (q : Parsed). q .formed) (sym read)
+
+  ranged-is : isRanged line ≡ p .ranged
+  unfolding isRanged
+  ranged-is = ap (λ (q : Parsed). q .ranged) (sym read)
+
+  line-is : lineOf line ≡ p .line
+  unfolding lineOf
+  line-is = ap (λ (q : Parsed). q .line) (sym read)
+
+  pub not-formed : (st : Settings) (table names : List ℕ) → not (p .formed) ≡ true → Stop Form ≡ readPlan st table names line
+  unfolding readPlan
+  not-formed st table names h = pick-yes _ _ _ _ (ap not formed-is ∙ h) refl
+
+  pub not-ranged : (st : Settings) (table names : List ℕ) → not (p .formed) ≡ false → not (p .ranged) ≡ true → Stop Value ≡ readPlan st table names line
+  unfolding readPlan
+  not-ranged st table names h k = pick-no _ _ _ _ (ap not formed-is ∙ h) (pick-yes _ _ _ _ (ap not ranged-is ∙ k) refl)
+
+  pub read-through : (st : Settings) (table names : List ℕ) (r : Plan) → not (p .formed) ≡ false → not (p .ranged) ≡ false → r ≡ linePlan st table names (nameColumns line) (p .line) → r ≡ readPlan st table names line
+  unfolding readPlan
+  read-through st table names r h k e = pick-no _ _ _ _ (ap not formed-is ∙ h) (pick-no _ _ _ _ (ap not ranged-is ∙ k) (rw line-is e))
+
+pub name-length : (line : List ℕ) → length line ≡ 100 → length (nameColumns line) ≡ 19
+name-length line h = rw (length-take, length-drop) (omega arith)
+
+pub shaped : (line : List ℕ) (r : Bool) → r ≡ isShaped line → not r ≡ false → length line ≡ 100
+unfolding isShaped
+shaped line r e h = eqb-true (length line) 100 (and-left (eqb (length line) 100) _ (sym e ∙ not-false r h))
+
+pub shaped-some : (line : List ℕ) (r : Bool) → r ≡ isShaped line → not r ≡ false → 0 < length line
+shaped-some line r e h = omega (arith, shaped line r e h)

@@ -1,0 +1,259 @@
+// What a line asks for: the refusal of 1 to 12 that stops it, by number, or what it prints and stores. Securities and names
+// stand in lent tables; a line is any bytes of any length.
+use rules::Line;
+use rules::Listing;
+use rules::Mode;
+use rules::Refusal;
+use rules::Security;
+use rules::Settings;
+use rules::Side;
+use rules::Trade;
+ghost use mathlib.Core.Path.{_≡_};
+ghost use Prim.Native.Nat.{_-_, _≤_, _<_};
+ghost use mathlib.Core.Bool.{_&&_, not};
+ghost use lib.Dec.{eqb};
+ghost use lib.ListN.{length};
+ghost use Rattle.rules.specs.Line.{isShaped};
+ghost use Rattle.rules.specs.Names.{sameName};
+ghost use Rattle.rules.specs.Conditions.{onNetwork};
+ghost use Rattle.rules.specs.Day.{isEntered, takenName, entered};
+ghost use Rattle.table.specs.Rows.{row, nameOf, rowsFrom, namesFrom};
+ghost use Rattle.planner.specs.Plan.{isOpen, datePlan, listingPlan, printPlan, tradePlan, linePlan, readPlan, planOf, SoundListing, SoundTrade, SoundLine};
+
+// What an accepted trade prints, and the security after it.
+pub struct TradePlan {
+    pub place: usize,
+    pub side: Side,
+    pub network: u64,
+    pub unit: u64,
+    pub temporary: bool,
+    pub prints: bool,
+    pub full: bool,
+    pub shows: bool,
+    pub after: Security,
+}
+
+// What a line asks for, or the refusal that stops it.
+pub enum Plan {
+    Stop(Refusal),
+    Open(u64),
+    Enter(usize, Security),
+    Change(Mode),
+    Level(u64),
+    Step(u64),
+    Print(TradePlan),
+}
+
+// ---- the plan
+
+fn is_shaped(line: &[u8]) -> bool
+    ensures { λ r. ⌜ r ≡ isShaped (now (line .entry)) ⌝ }
+{
+    if line.len() != 100 {
+        return false;
+    }
+    field::is_printable_text(line)
+}
+
+// The kinds that are open.
+fn is_open(c: u8) -> bool
+    ensures { λ r. ⌜ r ≡ isOpen c ⌝ }
+{
+    match c {
+        b'D' => true,
+        b'S' => true,
+        b'M' => true,
+        b'V' => true,
+        b'P' => true,
+        b'T' => true,
+        _ => false,
+    }
+}
+
+// Not a D, and no D accepted yet.
+fn is_undated(st: Settings, kind: u8) -> bool
+    ensures { λ r. ⌜ r ≡ (not (eqb kind 68) && eqb (st .date) 0) ⌝ }
+{
+    if kind == b'D' {
+        return false;
+    }
+    st.date == 0
+}
+
+fn date_plan(st: Settings, n: u64) -> Plan
+    ensures { λ r. ⌜ r ≡ datePlan st n ⌝ }
+{
+    if n <= st.date {
+        return Plan::Stop(Refusal::DateOrder);
+    }
+    Plan::Open(n)
+}
+
+// The name at place i is that of an entered security, and the same as the given one.
+fn is_taken_at(table: &[u64; 5632], names: &[u8; 9728], i: usize, name: &[u8]) -> bool
+    requires { ⌜ (i < 512) × (length (now name) ≡ 19) ⌝ }
+    ensures { λ r. ⌜ r ≡ (isEntered (row (now (table .entry)) i) && sameName (now (name .entry)) (nameOf (now (names .entry)) i)) ⌝ }
+{
+    let s = table::load(table, i);
+    if !decision::is_entered(s) {
+        return false;
+    }
+    let all = &names[..];
+    let from = i * 19;
+    let to = from + 19;
+    symbol::same_name(name, &all[from..to])
+}
+
+fn is_name_taken(table: &[u64; 5632], names: &[u8; 9728], name: &[u8]) -> bool
+    requires { ⌜ length (now name) ≡ 19 ⌝ }
+    ensures { λ r. ⌜ r ≡ takenName (now (name .entry)) (rowsFrom 512 0 (now (table .entry))) (namesFrom 512 0 (now (names .entry))) ⌝ }
+{
+    let mut i = 0;
+    while i < 512 {
+        if is_taken_at(table, names, i, name) {
+            return true;
+        }
+        i += 1;
+    }
+    false
+}
+
+fn entered_as(l: Listing) -> Security
+    ensures { λ r. ⌜ r ≡ entered l ⌝ }
+{
+    Security {
+        unit: l.unit,
+        network: l.network,
+        market: l.market,
+        first: l.first,
+        printed: 0,
+        high: 0,
+        low: 0,
+        last: 0,
+        trades: 0,
+        qualified: 0,
+        primaries: 0,
+    }
+}
+
+fn listing_plan(table: &[u64; 5632], names: &[u8; 9728], name: &[u8], l: Listing) -> Plan
+    requires { ⌜ SoundListing l × (length (now name) ≡ 19) ⌝ }
+    ensures { λ r. ⌜ r ≡ listingPlan (now (table .entry)) (now (names .entry)) (now (name .entry)) l ⌝ }
+{
+    let place = (l.number - 1) as usize;
+    let s = table::load(table, place);
+    if decision::is_entered(s) {
+        return Plan::Stop(Refusal::InUse);
+    }
+    if !l.lawful {
+        return Plan::Stop(Refusal::Name);
+    }
+    if is_name_taken(table, names, name) {
+        return Plan::Stop(Refusal::SameName);
+    }
+    Plan::Enter(place, entered_as(l))
+}
+
+fn print_plan(st: Settings, s: Security, t: Trade) -> TradePlan
+    requires { ⌜ SoundTrade t ⌝ }
+    ensures { λ r. ⌜ r ≡ printPlan st s t ⌝ }
+{
+    let x = t.side;
+    TradePlan {
+        place: (t.security - 1) as usize,
+        side: x,
+        network: s.network,
+        unit: s.unit,
+        temporary: decision::shows_temporary(s),
+        prints: decision::prints_trade(st, s, t.market, x),
+        full: decision::trade_full(st, s, t.market, x),
+        shows: decision::trade_shows(st, s, t.market, x),
+        after: decision::after_trade(st, s, t.market, x),
+    }
+}
+
+fn is_lawful(s: Security, t: Trade) -> bool
+    ensures { λ r. ⌜ r ≡ (t .lawful && onNetwork (s .network) (t .side .letters)) ⌝ }
+{
+    let x = t.side;
+    let letters = x.letters;
+    if !t.lawful {
+        return false;
+    }
+    decision::on_network(s.network, letters)
+}
+
+fn trade_plan(st: Settings, s: Security, t: Trade) -> Plan
+    requires { ⌜ SoundTrade t ⌝ }
+    ensures { λ r. ⌜ r ≡ tradePlan st s t ⌝ }
+{
+    if !decision::is_entered(s) {
+        return Plan::Stop(Refusal::NotEntered);
+    }
+    if !is_lawful(s, t) {
+        return Plan::Stop(Refusal::Conditions);
+    }
+    if !t.matched {
+        return Plan::Stop(Refusal::Unmatched);
+    }
+    Plan::Print(print_plan(st, s, t))
+}
+
+fn trade_at(st: Settings, table: &[u64; 5632], t: Trade) -> Plan
+    requires { ⌜ SoundTrade t ⌝ }
+    ensures { λ r. ⌜ r ≡ tradePlan st (row (now (table .entry)) (t .security - 1)) t ⌝ }
+{
+    let place = (t.security - 1) as usize;
+    let s = table::load(table, place);
+    trade_plan(st, s, t)
+}
+
+fn line_plan(st: Settings, table: &[u64; 5632], names: &[u8; 9728], name: &[u8], l: Line) -> Plan
+    requires { ⌜ SoundLine l × (length (now name) ≡ 19) ⌝ }
+    ensures { λ r. ⌜ r ≡ linePlan st (now (table .entry)) (now (names .entry)) (now (name .entry)) l ⌝ }
+{
+    match l {
+        Line::Dated(n) => date_plan(st, n),
+        Line::Listed(x) => listing_plan(table, names, name, x),
+        Line::Moded(m) => Plan::Change(m),
+        Line::Leveled(n) => Plan::Level(n),
+        Line::Stepped(n) => Plan::Step(n),
+        Line::Traded(t) => trade_at(st, table, t),
+        Line::Cancelled(_) => Plan::Stop(Refusal::Kind),
+        Line::Erred(_) => Plan::Stop(Refusal::Kind),
+        Line::Corrected(_) => Plan::Stop(Refusal::Kind),
+    }
+}
+
+// A line of an open kind, by its fields: refusals 4 and 5, then its own.
+fn read_plan(st: Settings, table: &[u64; 5632], names: &[u8; 9728], line: &[u8]) -> Plan
+    requires { ⌜ length (now line) ≡ 100 ⌝ }
+    ensures { λ r. ⌜ r ≡ readPlan st (now (table .entry)) (now (names .entry)) (now (line .entry)) ⌝ }
+{
+    let parsed = dayline::read_kind(line);
+    if !parsed.formed {
+        return Plan::Stop(Refusal::Form);
+    }
+    if !parsed.ranged {
+        return Plan::Stop(Refusal::Value);
+    }
+    let l = parsed.line;
+    line_plan(st, table, names, &line[5..24], l)
+}
+
+// What a line asks for.
+pub fn plan_line(st: Settings, table: &[u64; 5632], names: &[u8; 9728], line: &[u8]) -> Plan
+    ensures { λ r. ⌜ r ≡ planOf st (now (table .entry)) (now (names .entry)) (now (line .entry)) ⌝ }
+{
+    if !is_shaped(line) {
+        return Plan::Stop(Refusal::Shape);
+    }
+    let kind = line[0];
+    if !is_open(kind) {
+        return Plan::Stop(Refusal::Kind);
+    }
+    if is_undated(st, kind) {
+        return Plan::Stop(Refusal::NoDate);
+    }
+    read_plan(st, table, names, line)
+}
