@@ -194,7 +194,7 @@ fn side_matched(letters: Letters, days: Number, m: Number, e: Number) -> bool
 }
 
 // The one reader of a side, for T, X, E and both sides of a C line.
-pub fn read_side(part: &[u8]) -> SideRead
+fn read_side(part: &[u8]) -> SideRead
     requires { ⌜ length (now part) ≡ 46 ⌝ }
     ensures { λ r. ⌜ r ≡ sideRead (now (part .entry)) ⌝ }
 {
@@ -218,7 +218,7 @@ pub fn read_side(part: &[u8]) -> SideRead
 
 // ---- the kinds; each line has 100 columns
 
-pub fn read_date(line: &[u8]) -> Parsed
+fn read_date(line: &[u8]) -> Parsed
     requires { ⌜ length (now line) ≡ 100 ⌝ }
     ensures { λ r. ⌜ r ≡ dateRead (now (line .entry)) ⌝ }
 {
@@ -232,7 +232,7 @@ pub fn read_date(line: &[u8]) -> Parsed
     }
 }
 
-pub fn read_mode(line: &[u8]) -> Parsed
+fn read_mode(line: &[u8]) -> Parsed
     requires { ⌜ length (now line) ≡ 100 ⌝ }
     ensures { λ r. ⌜ r ≡ modeRead (now (line .entry)) ⌝ }
 {
@@ -246,7 +246,7 @@ pub fn read_mode(line: &[u8]) -> Parsed
     }
 }
 
-pub fn read_level(line: &[u8]) -> Parsed
+fn read_level(line: &[u8]) -> Parsed
     requires { ⌜ length (now line) ≡ 100 ⌝ }
     ensures { λ r. ⌜ r ≡ levelRead (now (line .entry)) ⌝ }
 {
@@ -260,7 +260,7 @@ pub fn read_level(line: &[u8]) -> Parsed
     }
 }
 
-pub fn read_step(line: &[u8]) -> Parsed
+fn read_step(line: &[u8]) -> Parsed
     requires { ⌜ length (now line) ≡ 100 ⌝ }
     ensures { λ r. ⌜ r ≡ stepRead (now (line .entry)) ⌝ }
 {
@@ -318,7 +318,7 @@ fn listing_ranged(number: u64, unit: u64, first: u64) -> bool
     first <= 1
 }
 
-pub fn read_listing(line: &[u8]) -> Parsed
+fn read_listing(line: &[u8]) -> Parsed
     requires { ⌜ length (now line) ≡ 100 ⌝ }
     ensures { λ r. ⌜ r ≡ listingRead (now (line .entry)) ⌝ }
 {
@@ -372,7 +372,7 @@ fn trade_ranged(security: u64, sides: bool) -> bool
 }
 
 // The fields of a T, X or E line.
-pub fn read_trade(line: &[u8]) -> TradeRead
+fn read_trade(line: &[u8]) -> TradeRead
     requires { ⌜ length (now line) ≡ 100 ⌝ }
     ensures { λ r. ⌜ r ≡ tradeRead (now (line .entry)) ⌝ }
 {
@@ -396,7 +396,7 @@ pub fn read_trade(line: &[u8]) -> TradeRead
     }
 }
 
-pub fn read_traded(line: &[u8]) -> Parsed
+fn read_traded(line: &[u8]) -> Parsed
     requires { ⌜ length (now line) ≡ 100 ⌝ }
     ensures { λ r. ⌜ r ≡ tradedRead (now (line .entry)) ⌝ }
 {
@@ -409,7 +409,7 @@ pub fn read_traded(line: &[u8]) -> Parsed
     }
 }
 
-pub fn read_cancelled(line: &[u8]) -> Parsed
+fn read_cancelled(line: &[u8]) -> Parsed
     requires { ⌜ length (now line) ≡ 100 ⌝ }
     ensures { λ r. ⌜ r ≡ cancelledRead (now (line .entry)) ⌝ }
 {
@@ -422,7 +422,7 @@ pub fn read_cancelled(line: &[u8]) -> Parsed
     }
 }
 
-pub fn read_erred(line: &[u8]) -> Parsed
+fn read_erred(line: &[u8]) -> Parsed
     requires { ⌜ length (now line) ≡ 100 ⌝ }
     ensures { λ r. ⌜ r ≡ erredRead (now (line .entry)) ⌝ }
 {
@@ -436,7 +436,7 @@ pub fn read_erred(line: &[u8]) -> Parsed
 }
 
 // A C line: each side is handed to the reader as a part that starts in the line's middle.
-pub fn read_correction(line: &[u8]) -> Parsed
+fn read_correction(line: &[u8]) -> Parsed
     requires { ⌜ length (now line) ≡ 100 ⌝ }
     ensures { λ r. ⌜ r ≡ correctedRead (now (line .entry)) ⌝ }
 {

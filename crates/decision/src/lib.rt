@@ -50,14 +50,14 @@ fn for_range_only(x: Letters) -> bool
 }
 
 // The trade qualifies for high and low.
-pub fn for_range(x: Letters) -> bool
+fn for_range(x: Letters) -> bool
     ensures { λ r. ⌜ r ≡ forRange x ⌝ }
 {
     !for_neither(x)
 }
 
 // The trade qualifies for last.
-pub fn for_last(x: Letters) -> bool
+fn for_last(x: Letters) -> bool
     ensures { λ r. ⌜ r ≡ forLast x ⌝ }
 {
     if for_neither(x) {
@@ -67,7 +67,7 @@ pub fn for_last(x: Letters) -> bool
 }
 
 // J or G.
-pub fn has_rule(x: Letters) -> bool
+fn has_rule(x: Letters) -> bool
     ensures { λ r. ⌜ r ≡ hasRule x ⌝ }
 {
     if x.j {
@@ -112,7 +112,7 @@ pub fn shows_temporary(s: Security) -> bool
 }
 
 // A first-day issue, its primary market, fewer than six such trades before.
-pub fn six(s: Security, market: u64) -> bool
+fn six(s: Security, market: u64) -> bool
     ensures { λ r. ⌜ r ≡ six s market ⌝ }
 {
     if s.first != 1 {
@@ -125,14 +125,14 @@ pub fn six(s: Security, market: u64) -> bool
 }
 
 // At or over the delete level.
-pub fn at_level(st: Settings, volume: u64) -> bool
+fn at_level(st: Settings, volume: u64) -> bool
     ensures { λ r. ⌜ r ≡ atLevel st volume ⌝ }
 {
     st.level <= volume
 }
 
 // The first trade qualifying for last.
-pub fn first_qualifying(s: Security, x: Letters) -> bool
+fn first_qualifying(s: Security, x: Letters) -> bool
     ensures { λ r. ⌜ r ≡ firstQualifying s x ⌝ }
 {
     if !for_last(x) {
@@ -142,7 +142,7 @@ pub fn first_qualifying(s: Security, x: Letters) -> bool
 }
 
 // Above the high, or the first.
-pub fn new_high(s: Security, value: u64) -> bool
+fn new_high(s: Security, value: u64) -> bool
     ensures { λ r. ⌜ r ≡ newHigh s value ⌝ }
 {
     if s.high == 0 {
@@ -152,7 +152,7 @@ pub fn new_high(s: Security, value: u64) -> bool
 }
 
 // Below the low, or the first.
-pub fn new_low(s: Security, value: u64) -> bool
+fn new_low(s: Security, value: u64) -> bool
     ensures { λ r. ⌜ r ≡ newLow s value ⌝ }
 {
     if s.low == 0 {
@@ -173,7 +173,7 @@ fn new_at(s: Security, value: u64) -> bool
 }
 
 // A new high or low by a trade that qualifies for them.
-pub fn new_range(s: Security, x: Side) -> bool
+fn new_range(s: Security, x: Side) -> bool
     requires { ⌜ Sound (x .price) ⌝ }
     ensures { λ r. ⌜ r ≡ newRange s x ⌝ }
 {
@@ -187,7 +187,7 @@ pub fn new_range(s: Security, x: Side) -> bool
 }
 
 // A price unlike the last printed, or none printed.
-pub fn unlike_printed(s: Security, value: u64) -> bool
+fn unlike_printed(s: Security, value: u64) -> bool
     ensures { λ r. ⌜ r ≡ unlikePrinted s value ⌝ }
 {
     if s.printed == 0 {
@@ -207,7 +207,7 @@ fn far_above(a: u64, b: u64, m: u64) -> bool
 }
 
 // More than level × 0.05 dollars from the last printed.
-pub fn far_from_printed(st: Settings, s: Security, value: u64) -> bool
+fn far_from_printed(st: Settings, s: Security, value: u64) -> bool
     ensures { λ r. ⌜ r ≡ farFromPrinted st s value ⌝ }
 {
     if s.printed == 0 {
@@ -284,7 +284,7 @@ fn full_at(s: Security, market: u64, whole: u64) -> bool
     six(s, market)
 }
 
-pub fn full_price(s: Security, market: u64, x: Side) -> bool
+fn full_price(s: Security, market: u64, x: Side) -> bool
     requires { ⌜ Sound (x .price) ⌝ }
     ensures { λ r. ⌜ r ≡ fullPrice s market x ⌝ }
 {
@@ -294,7 +294,7 @@ pub fn full_price(s: Security, market: u64, x: Side) -> bool
 }
 
 // At the level, first trade qualifying for last, six, J or G.
-pub fn shows_volume(st: Settings, s: Security, market: u64, x: Side) -> bool
+fn shows_volume(st: Settings, s: Security, market: u64, x: Side) -> bool
     ensures { λ r. ⌜ r ≡ showsVolume st s market x ⌝ }
 {
     let letters = x.letters;
@@ -370,7 +370,7 @@ pub fn prints_trade(st: Settings, s: Security, market: u64, x: Side) -> bool
     }
 }
 
-pub fn is_normal(m: Mode) -> bool
+fn is_normal(m: Mode) -> bool
     ensures { λ r. ⌜ r ≡ isNormal m ⌝ }
 {
     match m {
@@ -419,7 +419,7 @@ fn moved(qualifies: bool, new: bool, value: u64, held: u64) -> u64
     value
 }
 
-pub fn high_after(s: Security, x: Side) -> u64
+fn high_after(s: Security, x: Side) -> u64
     requires { ⌜ Sound (x .price) ⌝ }
     ensures { λ r. ⌜ r ≡ highAfter s x ⌝ }
 {
@@ -429,7 +429,7 @@ pub fn high_after(s: Security, x: Side) -> u64
     moved(for_range(letters), new_high(s, value), value, s.high)
 }
 
-pub fn low_after(s: Security, x: Side) -> u64
+fn low_after(s: Security, x: Side) -> u64
     requires { ⌜ Sound (x .price) ⌝ }
     ensures { λ r. ⌜ r ≡ lowAfter s x ⌝ }
 {
@@ -439,7 +439,7 @@ pub fn low_after(s: Security, x: Side) -> u64
     moved(for_range(letters), new_low(s, value), value, s.low)
 }
 
-pub fn last_after(s: Security, x: Side) -> u64
+fn last_after(s: Security, x: Side) -> u64
     requires { ⌜ Sound (x .price) ⌝ }
     ensures { λ r. ⌜ r ≡ lastAfter s x ⌝ }
 {
@@ -463,7 +463,7 @@ fn printed_after(st: Settings, s: Security, market: u64, x: Side) -> u64
 }
 
 // A count that stops where it no longer matters.
-pub fn counted(test: bool, most: u64, count: u64) -> u64
+fn counted(test: bool, most: u64, count: u64) -> u64
     requires { ⌜ most < 1000 ⌝ }
     ensures { λ r. ⌜ r ≡ counted test most count ⌝ }
 {

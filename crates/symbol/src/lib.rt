@@ -18,7 +18,7 @@ ghost use Rattle.symbol.specs.Word.{WordOf};
 // ---- fields
 
 // The length of the text at a field's left, up to the first blank.
-pub fn word_length(field: &[u8]) -> usize
+fn word_length(field: &[u8]) -> usize
     ensures { λ r. ⌜ WordOf (now (field .entry)) r ⌝ }
 {
     let mut i = 0;
@@ -45,7 +45,7 @@ fn is_blank(field: &[u8]) -> bool
 }
 
 // A text from its left, then blanks only.
-pub fn is_left_justified(field: &[u8]) -> bool
+fn is_left_justified(field: &[u8]) -> bool
     ensures { λ r. ⌜ r ≡ leftJustified (now (field .entry)) ⌝ }
 {
     let n = word_length(field);
@@ -233,7 +233,7 @@ fn is_preferred(text: &[u8]) -> bool
     is_preferred_series(text)
 }
 
-pub fn is_suffix(text: &[u8]) -> bool
+fn is_suffix(text: &[u8]) -> bool
     ensures { λ r. ⌜ r ≡ isSuffix (now (text .entry)) ⌝ }
 {
     if is_listed(text) {
@@ -242,7 +242,7 @@ pub fn is_suffix(text: &[u8]) -> bool
     is_preferred(text)
 }
 
-pub fn is_temporary(text: &[u8]) -> bool
+fn is_temporary(text: &[u8]) -> bool
     ensures { λ r. ⌜ r ≡ isTemporary (now (text .entry)) ⌝ }
 {
     if text::same_text(text, b"XD") {
@@ -271,7 +271,7 @@ fn is_appendage_of(network: u64, own: u64, text: &[u8], listed: &[u8]) -> bool
 }
 
 // BC on network A, DL on B.
-pub fn is_appendage(network: u64, text: &[u8]) -> bool
+fn is_appendage(network: u64, text: &[u8]) -> bool
     ensures { λ r. ⌜ r ≡ isAppendage network (now (text .entry)) ⌝ }
 {
     if is_appendage_of(network, 65, text, b"BC") {
@@ -280,7 +280,7 @@ pub fn is_appendage(network: u64, text: &[u8]) -> bool
     is_appendage_of(network, 66, text, b"DL")
 }
 
-pub fn is_reserved(root: &[u8]) -> bool
+fn is_reserved(root: &[u8]) -> bool
     ensures { λ r. ⌜ r ≡ isReserved (now (root .entry)) ⌝ }
 {
     if text::same_text(root, b"SHRS") {
