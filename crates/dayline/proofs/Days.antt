@@ -11,10 +11,11 @@ use Rattle.rules.specs.declared.Line.the-variants.{Dated, Listed, Moded, Levele
 use Rattle.rules.specs.Columns.{columns, column, blank, numberIn, isNumber, valueOf, between, isRoot, isDate}
 use Rattle.rules.specs.Names.{lawfulName}
 use Rattle.rules.specs.Line.{firstSide, secondSide, nameColumns, isMode, modeOf, dateFormed, dateRanged, listingFormed, listingRanged, listingOf, modeFormed, levelFormed, levelRanged, stepFormed, stepRanged, tradeFormed, tradeRanged, tradeOf, correctionFormed, correctionRanged, correctionOf, ofKind, isFormed, isRanged, lineOf}
-use Rattle.dayline.specs.declared.SideRead.{SideRead}
+use Rattle.dayside.specs.declared.SideRead.{SideRead}
 use Rattle.dayline.specs.declared.TradeRead.{TradeRead}
 use Rattle.dayline.specs.declared.Reading.the-variants.{Refused, Taken}
-use Rattle.dayline.specs.Fields.{sideRead, listingFormedBy, listingRangedBy, tradeFormedBy, tradeRangedBy, tradeRead, dateRead, listingRead, modeRead, levelRead, stepRead, tradedRead, cancelledRead, erredRead, correctedRead}
+use Rattle.dayside.specs.Side.{sideRead}
+use Rattle.dayline.specs.Fields.{listingFormedBy, listingRangedBy, tradeFormedBy, tradeRangedBy, tradeRead, dateRead, listingRead, modeRead, levelRead, stepRead, tradedRead, cancelledRead, erredRead, correctedRead}
 
 -- ---- one number or letter, then blanks
 

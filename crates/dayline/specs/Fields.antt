@@ -1,81 +1,18 @@
 -- A line's answers as functions of what its fields hold, each field read once. Assumes nothing.
 use Prim.Native.Nat.{ℕ}
-use mathlib.Core.Bool.{Bool, true, false, _&&_, not}
+use mathlib.Core.Bool.{Bool, true, _&&_, not}
 use mathlib.Core.List.{List}
 use lib.Dec.{leb}
 use Rattle.text.specs.Pick.{pick}
-use Rattle.rules.specs.Columns.{columns, column, numberIn, isNumber, numberOrBlank, valueOf, passes}
-use Rattle.rules.specs.Conditions.{lettersFormed, lettersIn, lawfulLetters}
-use Rattle.rules.specs.Line.{volumeIn, priceIn, decimalsIn, lettersField, daysIn, previousIn, previousDecimalsIn, sideFormed, sideRanged, sideOf, sideMatched, isPrice, previousRanged, alike, isNetwork, isMarket, isSecurityNumber, isUnit, dateFormed, dateRanged, listingFormed, listingRanged, listingOf, modeFormed, modeOf, levelFormed, levelRanged, stepFormed, stepRanged, tradeFormed, tradeRanged, tradeOf, correctionFormed, correctionRanged, correctionOf, isShaped, isKind, isFormed, isRanged, lineOf}
+use Rattle.rules.specs.Columns.{columns, column, numberIn, isNumber, valueOf}
+use Rattle.rules.specs.Line.{isNetwork, isMarket, isSecurityNumber, isUnit, dateFormed, dateRanged, listingFormed, listingRanged, listingOf, modeFormed, modeOf, levelFormed, levelRanged, stepFormed, stepRanged, tradeFormed, tradeRanged, tradeOf, correctionFormed, correctionRanged, correctionOf, isShaped, isKind, isFormed, isRanged, lineOf}
 use Rattle.rules.specs.declared.Number.{Number}
-use Rattle.rules.specs.declared.Letters.{Letters}
-use Rattle.rules.specs.declared.Side.{Side}
 use Rattle.rules.specs.declared.Parsed.{Parsed}
 use Rattle.rules.specs.declared.Line.the-variants.{Dated, Listed, Moded, Leveled, Stepped, Traded, Cancelled, Erred, Corrected}
 use Rattle.rules.specs.declared.Refusal.the-variants.{Shape, Kind, Form, Value}
-use Rattle.dayline.specs.declared.SideFields.{SideFields}
-use Rattle.dayline.specs.declared.LettersRead.{LettersRead}
-use Rattle.dayline.specs.declared.SideRead.{SideRead}
 use Rattle.dayline.specs.declared.TradeRead.{TradeRead}
 use Rattle.dayline.specs.declared.Reading.{Reading}
 use Rattle.dayline.specs.declared.Reading.the-variants.{Refused, Taken}
-
--- ---- a side: its numbers, and its letters
-
-unfoldable pub sideFields : List ℕ → SideFields
-sideFields part = record {
-  volume = volumeIn part;
-  n = priceIn part;
-  d = decimalsIn part;
-  days = daysIn part;
-  m = previousIn part;
-  e = previousDecimalsIn part;
-}
-
-unfoldable pub lettersRead : List ℕ → LettersRead
-lettersRead part = record { formed = lettersFormed part; letters = lettersIn part; lawful = lawfulLetters part }
-
-unfoldable pub formedBy : Number → Number → Number → Bool → Number → Number → Number → Bool
-formedBy volume n d letters days m e =
-    isNumber volume
-    && (isNumber n
-    && (isNumber d
-    && (letters
-    && (numberOrBlank days
-    && (numberOrBlank m
-    && numberOrBlank e)))))
-
-unfoldable pub rangedBy : Number → Number → Number → Number → Number → Number → Bool
-rangedBy volume n d days m e =
-    leb 1 (valueOf volume)
-    && (isPrice (valueOf n) (valueOf d)
-    && (passes (leb 1) days
-    && previousRanged m e))
-
-unfoldable pub sideBy : Number → Number → Number → Letters → Number → Number → Number → Side
-sideBy volume n d letters days m e = record {
-  volume = valueOf volume;
-  price = record { n = valueOf n; d = valueOf d };
-  letters = letters;
-  days = valueOf days;
-  previous = record { n = valueOf m; d = valueOf e };
-}
-
-unfoldable pub matchedBy : Letters → Number → Number → Number → Bool
-matchedBy letters days m e =
-    alike (letters .r) (isNumber days)
-    && (alike (letters .g) (isNumber m)
-    && alike (letters .g) (isNumber e))
-
--- what one reading of a side's 46 columns answers
-unfoldable pub sideRead : List ℕ → SideRead
-sideRead part = record {
-  formed = sideFormed part;
-  ranged = sideRanged part;
-  side = sideOf part;
-  lawful = lawfulLetters (lettersField part);
-  matched = sideMatched part;
-}
 
 -- ---- an S line
 

@@ -1,4 +1,1 @@
-pub mod Fields
-pub mod Listed
-pub mod Lawful
 pub mod Text

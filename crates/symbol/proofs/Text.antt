@@ -16,9 +16,9 @@ use Rattle.text.proofs.Writing.{written-nothing}
 use Rattle.rules.specs.Tape.{isRaised}
 use Rattle.rules.specs.Columns.{word}
 use Rattle.rules.specs.Names.{rootField, suffixField, temporaryField, appendageField, partText, nameText, hasTemporary}
-use Rattle.symbol.specs.Word.{WordOf}
-use Rattle.symbol.proofs.Fields.{word-blank, word-byte, word-nothing}
-use Rattle.symbol.proofs.Lawful.{unlike-nothing}
+use Rattle.suffix.specs.Word.{WordOf}
+use Rattle.suffix.proofs.Fields.{word-blank, word-byte, word-nothing}
+use Rattle.suffix.proofs.Lawful.{unlike-nothing}
 
 -- ---- a part: n bytes of its field, with the letter dot or without
 

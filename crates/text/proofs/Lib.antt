@@ -1,4 +1,5 @@
 pub mod Tests
+pub mod Told
 pub mod Texts
 pub mod Writing
 pub mod Decimal

@@ -1,4 +1,4 @@
-use Rattle.dayline.proofs.Flags.{flags}
+use Rattle.dayside.proofs.Flags.{flags}
 use Rattle.dayline.proofs.both.Statement.{statement}
 use Rattle.dayline.proofs.both.Tie as tie
 

@@ -1,4 +1,4 @@
-use Rattle.dayline.proofs.Flags.{rows}
+use Rattle.dayside.proofs.Flags.{rows}
 use Rattle.dayline.specs.Fields.{listingFormedBy}
 use borrow.Author.Needs.{needs}
 use Rattle.dayline.proofs.listing_formed.Statement.{statement}

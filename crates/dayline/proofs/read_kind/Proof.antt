@@ -1,4 +1,4 @@
-use Rattle.dayline.proofs.Flags.{flags}
+use Rattle.dayside.proofs.Flags.{flags}
 use Rattle.rules.specs.Line.{ofKind}
 use borrow.Author.Needs.{needs}
 use Rattle.dayline.proofs.read_kind.Statement.{statement}

@@ -1,4 +1,4 @@
-use Rattle.dayline.proofs.Flags.{refusals}
+use Rattle.dayside.proofs.Flags.{refusals}
 use Rattle.dayline.proofs.Days.{parsed}
 use Rattle.rules.specs.Line.{isShaped}
 use Rattle.dayline.specs.Fields.{readingOf}

@@ -1,4 +1,4 @@
-use Rattle.dayline.proofs.Flags.{flags}
+use Rattle.dayside.proofs.Flags.{flags}
 use Rattle.dayline.specs.Fields.{tradeRangedBy}
 use borrow.Author.Needs.{needs}
 use Rattle.dayline.proofs.trade_ranged.Statement.{statement}

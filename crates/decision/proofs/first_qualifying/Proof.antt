@@ -1,4 +1,4 @@
-use Rattle.decision.proofs.Answers.{answers}
+use Rattle.text.proofs.Told.{answers}
 use Rattle.rules.specs.Trade.{firstQualifying}
 use borrow.Author.Needs.{needs}
 use Rattle.decision.proofs.first_qualifying.Statement.{statement}

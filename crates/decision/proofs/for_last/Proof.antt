@@ -1,4 +1,4 @@
-use Rattle.decision.proofs.Answers.{answers}
+use Rattle.text.proofs.Told.{answers}
 use Rattle.rules.specs.Qualifying.{forLast}
 use borrow.Author.Needs.{needs}
 use Rattle.decision.proofs.for_last.Statement.{statement}

@@ -1,4 +1,4 @@
-use Rattle.decision.proofs.Answers.{answers}
+use Rattle.text.proofs.Told.{answers}
 use Rattle.rules.specs.Qualifying.{forNeither}
 use Rattle.decision.proofs.for_neither.Statement.{statement}
 use Rattle.decision.proofs.for_neither.Tie as tie

@@ -1,4 +1,4 @@
-use Rattle.decision.proofs.Answers.{answers}
+use Rattle.text.proofs.Told.{answers}
 use Rattle.rules.specs.Qualifying.{forRangeOnly}
 use Rattle.decision.proofs.for_range_only.Statement.{statement}
 use Rattle.decision.proofs.for_range_only.Tie as tie

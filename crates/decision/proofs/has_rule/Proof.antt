@@ -1,4 +1,4 @@
-use Rattle.decision.proofs.Answers.{answers}
+use Rattle.text.proofs.Told.{answers}
 use Rattle.rules.specs.Conditions.{hasRule}
 use Rattle.decision.proofs.has_rule.Statement.{statement}
 use Rattle.decision.proofs.has_rule.Tie as tie

@@ -1,4 +1,4 @@
-use Rattle.decision.proofs.Answers.{answers}
+use Rattle.text.proofs.Told.{answers}
 use Rattle.decision.proofs.Values.{values}
 use Rattle.decision.specs.Parts.{lastFar}
 use borrow.Author.Needs.{needs}

@@ -1,4 +1,4 @@
-use Rattle.decision.proofs.Answers.{answers}
+use Rattle.text.proofs.Told.{answers}
 use Rattle.decision.proofs.moved.Statement.{statement}
 use Rattle.decision.proofs.moved.Tie as tie
 

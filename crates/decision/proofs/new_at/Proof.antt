@@ -1,4 +1,4 @@
-use Rattle.decision.proofs.Answers.{answers}
+use Rattle.text.proofs.Told.{answers}
 use Rattle.decision.specs.Parts.{newAt}
 use borrow.Author.Needs.{needs}
 use Rattle.decision.proofs.new_at.Statement.{statement}

@@ -1,4 +1,4 @@
-use Rattle.decision.proofs.Answers.{answers}
+use Rattle.text.proofs.Told.{answers}
 use Rattle.rules.specs.Trade.{newHigh}
 use Rattle.decision.proofs.new_high.Statement.{statement}
 use Rattle.decision.proofs.new_high.Tie as tie

@@ -1,4 +1,4 @@
-use Rattle.decision.proofs.Answers.{answers}
+use Rattle.text.proofs.Told.{answers}
 use Rattle.rules.specs.Trade.{newLow}
 use Rattle.decision.proofs.new_low.Statement.{statement}
 use Rattle.decision.proofs.new_low.Tie as tie

@@ -1,4 +1,4 @@
-use Rattle.decision.proofs.Answers.{answers}
+use Rattle.text.proofs.Told.{answers}
 use Rattle.rules.specs.Trade.{six}
 use Rattle.decision.proofs.six.Statement.{statement}
 use Rattle.decision.proofs.six.Tie as tie

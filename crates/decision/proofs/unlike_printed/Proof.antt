@@ -1,4 +1,4 @@
-use Rattle.decision.proofs.Answers.{answers}
+use Rattle.text.proofs.Told.{answers}
 use Rattle.rules.specs.Trade.{unlikePrinted}
 use Rattle.decision.proofs.unlike_printed.Statement.{statement}
 use Rattle.decision.proofs.unlike_printed.Tie as tie

@@ -1,4 +1,4 @@
-use Rattle.field.proofs.Told.{told}
+use Rattle.text.proofs.Told.{told}
 use Rattle.rules.specs.Tape.{isLetter}
 use Rattle.field.proofs.is_letter.Statement.{statement}
 use Rattle.field.proofs.is_letter.Tie as tie

@@ -1,4 +1,4 @@
-use Rattle.field.proofs.Told.{told}
+use Rattle.text.proofs.Told.{told}
 use Rattle.rules.specs.Columns.{between}
 use Rattle.rules.specs.Line.{isPrintable}
 use Rattle.field.proofs.is_printable.Statement.{statement}

@@ -1,4 +1,4 @@
-use Rattle.field.proofs.Told.{told}
+use Rattle.text.proofs.Told.{told}
 use Rattle.rules.specs.Columns.{isRoot}
 use Rattle.field.proofs.Texts.{root-last}
 use borrow.Author.Needs.{needs}

@@ -1,4 +1,4 @@
-use Rattle.field.proofs.Told.{told}
+use Rattle.text.proofs.Told.{told}
 use Rattle.rules.specs.Conditions.{lawfulLetters}
 use Rattle.field.proofs.Letters.{lawful-none}
 use borrow.Author.Needs.{needs}

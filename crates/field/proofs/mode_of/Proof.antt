@@ -1,4 +1,4 @@
-use Rattle.field.proofs.Told.{told}
+use Rattle.text.proofs.Told.{told}
 use Rattle.rules.specs.Line.{modeOf}
 use Rattle.field.proofs.mode_of.Statement.{statement}
 use Rattle.field.proofs.mode_of.Tie as tie

@@ -1,4 +1,4 @@
-use Rattle.decision.proofs.Answers.{answers}
+use Rattle.text.proofs.Told.{answers}
 use borrow.Author.Needs.{needs}
 use Rattle.planner.proofs.is_lawful.Statement.{statement}
 use Rattle.planner.proofs.is_lawful.Tie as tie

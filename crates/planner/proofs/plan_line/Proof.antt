@@ -1,4 +1,4 @@
-use Rattle.decision.proofs.Answers.{answers}
+use Rattle.text.proofs.Told.{answers}
 use Rattle.planner.specs.Plan.{planOf}
 use Rattle.planner.proofs.Ranged.{shaped, shaped-some}
 use borrow.Author.Needs.{needs}

@@ -1,4 +1,4 @@
-use Rattle.decision.proofs.Answers.{answers}
+use Rattle.text.proofs.Told.{answers}
 use Rattle.planner.specs.Plan.{tradePlan}
 use Rattle.planner.proofs.Plans.{prints}
 use borrow.Author.Needs.{needs}

@@ -1,4 +1,4 @@
-use Rattle.symbol.proofs.Lawful.{answers}
+use Rattle.suffix.proofs.Lawful.{answers}
 use Rattle.rules.specs.Names.{sameName}
 use borrow.Author.Needs.{needs}
 use Rattle.symbol.proofs.same_name.Statement.{statement}

@@ -1,0 +1,186 @@
+// One side of a T, X, E or C line, read from its 46 columns (document 01, Day lines): each field in its form, each number
+// within its values, and the side as a value. What needs the day's state is not asked here.
+use rules::Letters;
+use rules::Number;
+use rules::Price;
+use rules::Side;
+ghost use mathlib.Core.Path.{_≡_};
+ghost use lib.ListN.{length};
+ghost use Rattle.rules.specs.Columns.{isNumber};
+ghost use Rattle.rules.specs.Line.{alike};
+ghost use Rattle.dayside.specs.Side.{sideFields, lettersRead, formedBy, rangedBy, sideBy, matchedBy, sideRead};
+
+// One side of a T, X, E or C line: in its form, within its values, its value, and what refusals 10 and 11 ask of it alone.
+pub struct SideRead {
+    pub formed: bool,
+    pub ranged: bool,
+    pub side: Side,
+    pub lawful: bool,
+    pub matched: bool,
+}
+
+// The numbers in a side's columns: volume, price n over ten to the power d, days, previous last m over ten to the power e.
+pub struct SideFields {
+    pub volume: Number,
+    pub n: Number,
+    pub d: Number,
+    pub days: Number,
+    pub m: Number,
+    pub e: Number,
+}
+
+// The condition letters in their four columns: in their form, which they are, and what refusal 10 asks of them alone.
+pub struct LettersRead {
+    pub formed: bool,
+    pub letters: Letters,
+    pub lawful: bool,
+}
+
+fn read_fields(part: &[u8]) -> SideFields
+    requires { ⌜ length (now part) ≡ 46 ⌝ }
+    ensures { λ r. ⌜ r ≡ sideFields (now (part .entry)) ⌝ }
+{
+    SideFields {
+        volume: numbers::read_number(&part[0..9]),
+        n: numbers::read_number(&part[9..23]),
+        d: numbers::read_number(&part[23..24]),
+        days: numbers::read_number(&part[28..31]),
+        m: numbers::read_number(&part[31..45]),
+        e: numbers::read_number(&part[45..46]),
+    }
+}
+
+fn read_letters(part: &[u8]) -> LettersRead
+    requires { ⌜ length (now part) ≡ 4 ⌝ }
+    ensures { λ r. ⌜ r ≡ lettersRead (now (part .entry)) ⌝ }
+{
+    LettersRead {
+        formed: field::letters_formed(part),
+        letters: field::letters_in(part),
+        lawful: field::lawful_letters(part),
+    }
+}
+
+// Only letters, days and previous last may be blank.
+fn side_formed(
+    volume: Number,
+    n: Number,
+    d: Number,
+    letters: bool,
+    days: Number,
+    m: Number,
+    e: Number,
+) -> bool
+    ensures { λ r. ⌜ r ≡ formedBy volume n d letters days m e ⌝ }
+{
+    if !numbers::is_number(volume) {
+        return false;
+    }
+    if !numbers::is_number(n) {
+        return false;
+    }
+    if !numbers::is_number(d) {
+        return false;
+    }
+    if !letters {
+        return false;
+    }
+    if !numbers::is_number_or_blank(days) {
+        return false;
+    }
+    if !numbers::is_number_or_blank(m) {
+        return false;
+    }
+    numbers::is_number_or_blank(e)
+}
+
+// Volume from 1, a price, days from 1, previous last.
+fn side_ranged(volume: Number, n: Number, d: Number, days: Number, m: Number, e: Number) -> bool
+    ensures { λ r. ⌜ r ≡ rangedBy volume n d days m e ⌝ }
+{
+    if numbers::value_of(volume) < 1 {
+        return false;
+    }
+    if !numbers::is_price(numbers::value_of(n), numbers::value_of(d)) {
+        return false;
+    }
+    if !numbers::is_from_one(days) {
+        return false;
+    }
+    numbers::is_previous_ranged(m, e)
+}
+
+fn side_of(
+    volume: Number,
+    n: Number,
+    d: Number,
+    letters: Letters,
+    days: Number,
+    m: Number,
+    e: Number,
+) -> Side
+    ensures { λ r. ⌜ r ≡ sideBy volume n d letters days m e ⌝ }
+{
+    let price = Price {
+        n: numbers::value_of(n),
+        d: numbers::value_of(d),
+    };
+    let previous = Price {
+        n: numbers::value_of(m),
+        d: numbers::value_of(e),
+    };
+    Side {
+        volume: numbers::value_of(volume),
+        price: price,
+        letters: letters,
+        days: numbers::value_of(days),
+        previous: previous,
+    }
+}
+
+// The number stands there exactly if the letter does.
+fn is_given_with(letter: bool, x: Number) -> bool
+    ensures { λ r. ⌜ r ≡ alike letter (isNumber x) ⌝ }
+{
+    let given = numbers::is_number(x);
+    if letter {
+        return given;
+    }
+    !given
+}
+
+// Days exactly with R; previous last exactly with G, both its fields.
+fn side_matched(letters: Letters, days: Number, m: Number, e: Number) -> bool
+    ensures { λ r. ⌜ r ≡ matchedBy letters days m e ⌝ }
+{
+    if !is_given_with(letters.r, days) {
+        return false;
+    }
+    if !is_given_with(letters.g, m) {
+        return false;
+    }
+    is_given_with(letters.g, e)
+}
+
+// The one reader of a side, for T, X, E and both sides of a C line.
+pub fn read_side(part: &[u8]) -> SideRead
+    requires { ⌜ length (now part) ≡ 46 ⌝ }
+    ensures { λ r. ⌜ r ≡ sideRead (now (part .entry)) ⌝ }
+{
+    let x = read_fields(part);
+    let volume = x.volume;
+    let n = x.n;
+    let d = x.d;
+    let days = x.days;
+    let m = x.m;
+    let e = x.e;
+    let read = read_letters(&part[24..28]);
+    let letters = read.letters;
+    SideRead {
+        formed: side_formed(volume, n, d, read.formed, days, m, e),
+        ranged: side_ranged(volume, n, d, days, m, e),
+        side: side_of(volume, n, d, letters, days, m, e),
+        lawful: read.lawful,
+        matched: side_matched(letters, days, m, e),
+    }
+}

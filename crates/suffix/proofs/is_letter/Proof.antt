@@ -1,0 +1,15 @@
+use Rattle.suffix.proofs.Lawful.{answers}
+use Rattle.rules.specs.Tape.{isLetter}
+use Rattle.suffix.proofs.is_letter.Statement.{statement}
+use Rattle.suffix.proofs.is_letter.Tie as tie
+
+returns : tie.Need-returns
+unfolding isLetter
+returns c = search answers
+
+returns-2 : tie.Need-returns-2
+unfolding isLetter
+returns-2 c = search answers
+
+pub is-letter-spec : {M : Type 1} → statement M
+is-letter-spec = tie.close (tie.spec returns returns-2)
