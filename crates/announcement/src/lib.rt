@@ -111,7 +111,7 @@ pub fn write_mode(rest: &mut [u8], m: Mode, minimum: u64) -> usize
         Mode::Normal => write_normal(rest),
         Mode::Dvd => write_dvd(rest),
         Mode::Rpo => write_rpo(rest),
-        Mode::Mpv => write_minimum(rest, minimum),
+        Mode::Mpv => write_minimum(rest, minimum), // the minimum in force
     }
 }
 
@@ -138,10 +138,10 @@ pub fn step_length(m: Mode, minimum: u64) -> usize
     ensures { λ r. ⌜ (r ≡ length (stepText m minimum)) × (r ≤ 54) ⌝ }
 {
     match m {
-        Mode::Normal => 0,
+        Mode::Normal => 0, // no text
         Mode::Dvd => 0,
         Mode::Rpo => 0,
-        Mode::Mpv => minimum_length(minimum),
+        Mode::Mpv => minimum_length(minimum), // the new minimum
     }
 }
 
@@ -150,9 +150,9 @@ pub fn write_step(rest: &mut [u8], m: Mode, minimum: u64) -> usize
     ensures { λ r. ⌜ Written (stepText m minimum) (now (rest .entry)) (now (rest .exit)) r ⌝ }
 {
     match m {
-        Mode::Normal => 0,
+        Mode::Normal => 0, // nothing written
         Mode::Dvd => 0,
         Mode::Rpo => 0,
-        Mode::Mpv => write_minimum(rest, minimum),
+        Mode::Mpv => write_minimum(rest, minimum), // the new minimum
     }
 }

@@ -69,7 +69,7 @@ pub fn is_number(x: Number) -> bool
     match x {
         Number::Blank => false,
         Number::Bad => false,
-        Number::Is(_) => true,
+        Number::Is(_) => true, // in its form
     }
 }
 
@@ -78,8 +78,8 @@ pub fn is_number_or_blank(x: Number) -> bool
     ensures { λ r. ⌜ r ≡ numberOrBlank x ⌝ }
 {
     match x {
-        Number::Blank => true,
-        Number::Bad => false,
+        Number::Blank => true, // left out
+        Number::Bad => false, // not in its form
         Number::Is(_) => true,
     }
 }

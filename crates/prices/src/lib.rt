@@ -57,7 +57,7 @@ pub fn whole_length(w: u64) -> usize
     ensures { λ r. ⌜ (r ≡ length (wholeText w)) × (r ≤ 20) ⌝ }
 {
     if w == 0 {
-        return 0;
+        return 0; // no digit
     }
     text::decimal_length(w)
 }
@@ -67,7 +67,7 @@ pub fn write_whole(rest: &mut [u8], w: u64) -> usize
     ensures { λ r. ⌜ Written (wholeText w) (now (rest .entry)) (now (rest .exit)) r ⌝ }
 {
     if w == 0 {
-        return 0;
+        return 0; // nothing written
     }
     text::write_decimal(rest, w)
 }

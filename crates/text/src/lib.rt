@@ -86,7 +86,7 @@ pub fn optional_length(test: bool, text: &[u8]) -> usize
     if test {
         return text.len();
     }
-    0
+    0 // left out
 }
 
 pub fn write_optional(rest: &mut [u8], test: bool, text: &[u8]) -> usize
@@ -96,5 +96,5 @@ pub fn write_optional(rest: &mut [u8], test: bool, text: &[u8]) -> usize
     if test {
         return write_bytes(rest, text);
     }
-    0
+    0 // nothing written
 }
