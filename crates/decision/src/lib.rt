@@ -6,110 +6,16 @@ use rules::Security;
 use rules::Settings;
 use rules::Side;
 ghost use mathlib.Core.Path.{_≡_};
-ghost use mathlib.Core.Bool.{_&&_, _||_, not};
+ghost use mathlib.Core.Bool.{_&&_, not};
 ghost use Prim.Native.Nat.{_+_, _*_, _<_};
 ghost use lib.Dec.{eqb, ltb};
 ghost use Rattle.text.specs.Pick.{pick};
 ghost use Rattle.rules.specs.Price.{units};
-ghost use Rattle.rules.specs.Conditions.{hasRule, onNetwork};
-ghost use Rattle.rules.specs.Qualifying.{forNeither, forRangeOnly, forRange, forLast};
 ghost use Rattle.rules.specs.Trade.{six, atLevel, firstQualifying, newHigh, newLow, newRange, tens, endsInZero, dollars, fullPrice, showsVolume, printsAnyhow, unlikePrinted, farFromPrinted, printsTrade, isNormal, tradeFull, tradeShows, highAfter, lowAfter, lastAfter, counted, afterTrade};
-ghost use Rattle.rules.specs.Day.{isEntered, showsTemporary};
 ghost use Rattle.prices.specs.Sound.{Sound};
 ghost use Rattle.decision.specs.Parts.{fullAt, newAt, lastUnlike, lastFar, printsRpo, printsMpv};
 
-// ---- letters (Price and conditions)
-
-// Any of C N R B.
-fn for_neither(x: Letters) -> bool
-    ensures { λ r. ⌜ r ≡ forNeither x ⌝ }
-{
-    if x.c {
-        return true;
-    }
-    if x.n {
-        return true;
-    }
-    if x.r {
-        return true;
-    }
-    x.b
-}
-
-// Any of O S L.
-fn for_range_only(x: Letters) -> bool
-    ensures { λ r. ⌜ r ≡ forRangeOnly x ⌝ }
-{
-    if x.o {
-        return true;
-    }
-    if x.s {
-        return true;
-    }
-    x.l
-}
-
-// The trade qualifies for high and low.
-fn for_range(x: Letters) -> bool
-    ensures { λ r. ⌜ r ≡ forRange x ⌝ }
-{
-    !for_neither(x)
-}
-
-// The trade qualifies for last.
-fn for_last(x: Letters) -> bool
-    ensures { λ r. ⌜ r ≡ forLast x ⌝ }
-{
-    if for_neither(x) {
-        return false;
-    }
-    !for_range_only(x)
-}
-
-// J or G.
-fn has_rule(x: Letters) -> bool
-    ensures { λ r. ⌜ r ≡ hasRule x ⌝ }
-{
-    if x.j {
-        return true;
-    }
-    x.g
-}
-
-// A letter that one network alone has.
-fn on_its_network(letter: bool, network: u64, own: u64) -> bool
-    ensures { λ r. ⌜ r ≡ (not letter || eqb network own) ⌝ }
-{
-    if !letter {
-        return true;
-    }
-    network == own
-}
-
-// J on network A only, G on B only.
-pub fn on_network(network: u64, x: Letters) -> bool
-    ensures { λ r. ⌜ r ≡ onNetwork network x ⌝ }
-{
-    if !on_its_network(x.j, network, 65) {
-        return false;
-    }
-    on_its_network(x.g, network, 66)
-}
-
 // ---- a security
-
-pub fn is_entered(s: Security) -> bool
-    ensures { λ r. ⌜ r ≡ isEntered s ⌝ }
-{
-    s.unit != 0
-}
-
-// The temporary suffix, on the first five trades of the security's day.
-pub fn shows_temporary(s: Security) -> bool
-    ensures { λ r. ⌜ r ≡ showsTemporary s ⌝ }
-{
-    s.trades < 5
-}
 
 // A first-day issue, its primary market, fewer than six such trades before.
 fn six(s: Security, market: u64) -> bool
@@ -135,7 +41,7 @@ fn at_level(st: Settings, volume: u64) -> bool
 fn first_qualifying(s: Security, x: Letters) -> bool
     ensures { λ r. ⌜ r ≡ firstQualifying s x ⌝ }
 {
-    if !for_last(x) {
+    if !qualifying::for_last(x) {
         return false;
     }
     s.qualified == 0
@@ -179,7 +85,7 @@ fn new_range(s: Security, x: Side) -> bool
 {
     let letters = x.letters;
     let price = x.price;
-    if !for_range(letters) {
+    if !qualifying::for_range(letters) {
         return false;
     }
     let value = prices::in_units(price);
@@ -226,7 +132,7 @@ fn last_unlike(s: Security, x: Side) -> bool
 {
     let letters = x.letters;
     let price = x.price;
-    if !for_last(letters) {
+    if !qualifying::for_last(letters) {
         return false;
     }
     let value = prices::in_units(price);
@@ -240,7 +146,7 @@ fn last_far(st: Settings, s: Security, x: Side) -> bool
 {
     let letters = x.letters;
     let price = x.price;
-    if !for_last(letters) {
+    if !qualifying::for_last(letters) {
         return false;
     }
     let value = prices::in_units(price);
@@ -307,7 +213,7 @@ fn shows_volume(st: Settings, s: Security, market: u64, x: Side) -> bool
     if six(s, market) {
         return true;
     }
-    has_rule(letters)
+    qualifying::has_rule(letters)
 }
 
 // ---- what prints
@@ -326,7 +232,7 @@ fn prints_anyhow(st: Settings, s: Security, market: u64, x: Side) -> bool
     if s.unit == 1 {
         return true;
     }
-    has_rule(letters)
+    qualifying::has_rule(letters)
 }
 
 fn prints_rpo(st: Settings, s: Security, market: u64, x: Side) -> bool
@@ -426,7 +332,12 @@ fn high_after(s: Security, x: Side) -> u64
     let letters = x.letters;
     let price = x.price;
     let value = prices::in_units(price);
-    moved(for_range(letters), new_high(s, value), value, s.high)
+    moved(
+        qualifying::for_range(letters),
+        new_high(s, value),
+        value,
+        s.high,
+    )
 }
 
 fn low_after(s: Security, x: Side) -> u64
@@ -436,7 +347,12 @@ fn low_after(s: Security, x: Side) -> u64
     let letters = x.letters;
     let price = x.price;
     let value = prices::in_units(price);
-    moved(for_range(letters), new_low(s, value), value, s.low)
+    moved(
+        qualifying::for_range(letters),
+        new_low(s, value),
+        value,
+        s.low,
+    )
 }
 
 fn last_after(s: Security, x: Side) -> u64
@@ -445,7 +361,7 @@ fn last_after(s: Security, x: Side) -> u64
 {
     let letters = x.letters;
     let price = x.price;
-    if !for_last(letters) {
+    if !qualifying::for_last(letters) {
         return s.last;
     }
     prices::in_units(price)
@@ -492,7 +408,7 @@ pub fn after_trade(st: Settings, s: Security, market: u64, x: Side) -> Security
         low: low_after(s, x),
         last: last_after(s, x),
         trades: counted(true, 5, s.trades),
-        qualified: counted(for_last(letters), 1, s.qualified),
+        qualified: counted(qualifying::for_last(letters), 1, s.qualified),
         primaries: counted(market == s.market, 6, s.primaries),
     }
 }

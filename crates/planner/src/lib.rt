@@ -95,7 +95,7 @@ fn is_taken_at(table: &[u64; 5632], names: &[u8; 9728], i: usize, name: &[u8]) -
     ensures { λ r. ⌜ r ≡ (isEntered (row (now (table .entry)) i) && sameName (now (name .entry)) (nameOf (now (names .entry)) i)) ⌝ }
 {
     let s = table::load(table, i);
-    if !decision::is_entered(s) {
+    if !qualifying::is_entered(s) {
         return false;
     }
     let all = &names[..];
@@ -142,7 +142,7 @@ fn listing_plan(table: &[u64; 5632], names: &[u8; 9728], name: &[u8], l: Listing
 {
     let place = (l.number - 1) as usize;
     let s = table::load(table, place);
-    if decision::is_entered(s) {
+    if qualifying::is_entered(s) {
         return Plan::Stop(Refusal::InUse);
     }
     if !l.lawful {
@@ -164,7 +164,7 @@ fn print_plan(st: Settings, s: Security, t: Trade) -> TradePlan
         side: x,
         network: s.network,
         unit: s.unit,
-        temporary: decision::shows_temporary(s),
+        temporary: qualifying::shows_temporary(s),
         prints: decision::prints_trade(st, s, t.market, x),
         full: decision::trade_full(st, s, t.market, x),
         shows: decision::trade_shows(st, s, t.market, x),
@@ -180,14 +180,14 @@ fn is_lawful(s: Security, t: Trade) -> bool
     if !t.lawful {
         return false;
     }
-    decision::on_network(s.network, letters)
+    qualifying::on_network(s.network, letters)
 }
 
 fn trade_plan(st: Settings, s: Security, t: Trade) -> Plan
     requires { ⌜ SoundTrade t ⌝ }
     ensures { λ r. ⌜ r ≡ tradePlan st s t ⌝ }
 {
-    if !decision::is_entered(s) {
+    if !qualifying::is_entered(s) {
         return Plan::Stop(Refusal::NotEntered);
     }
     if !is_lawful(s, t) {

@@ -53,7 +53,7 @@ fn tail_length(x: Side) -> usize
 {
     let letters = x.letters;
     let a = conditions::after_price_length(letters);
-    a + conditions::at_end_length(x)
+    a + ending::at_end_length(x)
 }
 
 fn write_tail(rest: &mut [u8], x: Side) -> usize
@@ -62,7 +62,7 @@ fn write_tail(rest: &mut [u8], x: Side) -> usize
 {
     let letters = x.letters;
     let at = conditions::write_after_price(rest, letters);
-    at + conditions::write_at_end(&mut rest[at..], x)
+    at + ending::write_at_end(&mut rest[at..], x)
 }
 
 // A whole side: name, volume, price, conditions.
