@@ -5,6 +5,7 @@ use rules::Number;
 use rules::Price;
 use rules::Side;
 ghost use mathlib.Core.Path.{_≡_};
+ghost use mathlib.Core.Bool.{_&&_};
 ghost use lib.ListN.{length};
 ghost use Rattle.rules.specs.Columns.{isNumber};
 ghost use Rattle.rules.specs.Line.{alike};
@@ -183,4 +184,14 @@ pub fn read_side(part: &[u8]) -> SideRead
         lawful: read.lawful,
         matched: side_matched(letters, days, m, e),
     }
+}
+
+// Two answers at once.
+pub fn both(a: bool, b: bool) -> bool
+    ensures { λ r. ⌜ r ≡ (a && b) ⌝ }
+{
+    if a {
+        return b;
+    }
+    false
 }

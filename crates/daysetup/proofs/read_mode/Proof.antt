@@ -1,7 +1,7 @@
-use Rattle.dayline.proofs.Days.{mode-read}
+use Rattle.daysetup.proofs.Setup.{mode-read}
 use borrow.Author.Needs.{needs}
-use Rattle.dayline.proofs.read_mode.Statement.{statement}
-use Rattle.dayline.proofs.read_mode.Tie as tie
+use Rattle.daysetup.proofs.read_mode.Statement.{statement}
+use Rattle.daysetup.proofs.read_mode.Tie as tie
 
 shared-slice-read-c : tie.Need-shared-slice-read-c
 shared-slice-read-c c = search needs

@@ -1,7 +1,7 @@
-use Rattle.dayline.proofs.Days.{step-read}
+use Rattle.daysetup.proofs.Setup.{step-read}
 use borrow.Author.Needs.{needs}
-use Rattle.dayline.proofs.read_step.Statement.{statement}
-use Rattle.dayline.proofs.read_step.Tie as tie
+use Rattle.daysetup.proofs.read_step.Statement.{statement}
+use Rattle.daysetup.proofs.read_step.Tie as tie
 
 sub-read-number : tie.Need-sub-read-number
 sub-read-number c = search needs

@@ -1,8 +1,8 @@
 use Rattle.dayside.proofs.Flags.{rows}
-use Rattle.dayline.specs.Fields.{listingFormedBy}
+use Rattle.daysetup.specs.Setup.{listingFormedBy}
 use borrow.Author.Needs.{needs}
-use Rattle.dayline.proofs.listing_formed.Statement.{statement}
-use Rattle.dayline.proofs.listing_formed.Tie as tie
+use Rattle.daysetup.proofs.listing_formed.Statement.{statement}
+use Rattle.daysetup.proofs.listing_formed.Tie as tie
 
 is-number-requires : tie.Need-is-number-requires
 is-number-requires c κs = search needs

@@ -1,6 +1,6 @@
 use Rattle.dayside.proofs.Flags.{flags}
-use Rattle.dayline.proofs.both.Statement.{statement}
-use Rattle.dayline.proofs.both.Tie as tie
+use Rattle.dayside.proofs.both.Statement.{statement}
+use Rattle.dayside.proofs.both.Tie as tie
 
 returns : tie.Need-returns
 returns c = search flags

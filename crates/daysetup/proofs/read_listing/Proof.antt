@@ -1,7 +1,7 @@
-use Rattle.dayline.proofs.Days.{listing-read}
+use Rattle.daysetup.proofs.Setup.{listing-read}
 use borrow.Author.Needs.{needs}
-use Rattle.dayline.proofs.read_listing.Statement.{statement}
-use Rattle.dayline.proofs.read_listing.Tie as tie
+use Rattle.daysetup.proofs.read_listing.Statement.{statement}
+use Rattle.daysetup.proofs.read_listing.Tie as tie
 
 sub-read-number : tie.Need-sub-read-number
 sub-read-number c = search needs

@@ -1,8 +1,8 @@
 use Rattle.dayside.proofs.Flags.{flags}
-use Rattle.dayline.specs.Fields.{listingRangedBy}
+use Rattle.daysetup.specs.Setup.{listingRangedBy}
 use borrow.Author.Needs.{needs}
-use Rattle.dayline.proofs.listing_ranged.Statement.{statement}
-use Rattle.dayline.proofs.listing_ranged.Tie as tie
+use Rattle.daysetup.proofs.listing_ranged.Statement.{statement}
+use Rattle.daysetup.proofs.listing_ranged.Tie as tie
 
 is-security-number-requires : tie.Need-is-security-number-requires
 is-security-number-requires c κs = search needs
