@@ -1,0 +1,136 @@
+-- One call, put together. Assumes nothing.
+use Prim.Native.Nat.{ℕ, _+_, _-_, _*_, _≤_, _<_}
+use native.Mathlib.Omega.{arith}
+use mathlib.Core.Path.{_≡_, refl, sym, ap, _∙_}
+use mathlib.Core.Bool.{Bool, true, false}
+use mathlib.Core.List.{List, []}
+use lib.Dec.{ltb}
+use lib.ListN.{length, take, drop, length-take, length-drop}
+use lib.Seq.{take-at}
+use borrow.Author.Tests.{lt-ltb, le-ltb, ltb-false}
+use Rattle.text.proofs.Tests.{pick-yes, pick-no}
+use Rattle.text.specs.Put.{put, Written}
+use Rattle.text.specs.Pick.{pick, opt}
+use Rattle.rules.specs.Names.{nameText}
+use Rattle.rules.specs.Side.{sideText}
+use Rattle.rules.specs.declared.Settings.{Settings}
+use Rattle.rules.specs.declared.Refusal.the-variants.{Room}
+use Rattle.symbol.proofs.Text.{name-short}
+use Rattle.table.specs.Rows.{nameOf}
+use Rattle.planner.specs.declared.TradePlan.{TradePlan}
+use Rattle.planner.specs.declared.Plan.{Plan}
+use Rattle.planner.specs.declared.Plan.the-variants.{Stop, Open, Enter, Change, Level, Step, Print}
+use Rattle.planner.specs.Plan.{planOf}
+use Rattle.engine.specs.declared.Outcome.{Outcome}
+use Rattle.engine.specs.declared.Answer.{Answer}
+use Rattle.engine.specs.Taken.{printedName, printText, textOf, fittedOf, asked, printOf, settingsAfter, tableAfter, namesAfter, outcomeOf, SoundPlan, Taken}
+
+-- what a writer left at the front
+pub front : {t b a : List ℕ} {n : ℕ} → Written t b a n → take n a ≡ t
+unfolding put
+front {t} {b} {a} {n} w = ap (take n) (w .tape) ∙ take-at t (drop (length t) b) n (sym (w .count-is))
+
+pub front-length : {t b a : List ℕ} {n : ℕ} → Written t b a n → n ≡ length (take n a)
+front-length {t} {b} {a} {n} w = w .count-is ∙ ap length (sym (front w))
+
+-- ---- the name at a place
+
+module _ (names : List ℕ) (i : ℕ) (temporary : Bool) where
+  slot : take (i * 19 + 19 - i * 19) (drop (i * 19) names) ≡ nameOf names i
+  unfolding nameOf
+  slot = let q : i * 19 + 19 - i * 19 ≡ 19 = omega arith in rw q
+
+  pub slot-length : i < 512 → length names ≡ 9728 → length (take (i * 19 + 19 - i * 19) (drop (i * 19) names)) ≡ 19
+  slot-length h l = rw (length-take, length-drop) (omega arith)
+
+  pub slot-room : (m : ℕ) → i < 512 → length names ≡ 9728 → 22 ≤ m → length (nameText temporary (take (i * 19 + 19 - i * 19) (drop (i * 19) names))) ≤ m
+  slot-room m h l k = omega (arith, name-short temporary (take (i * 19 + 19 - i * 19) (drop (i * 19) names)) (slot-length h l))
+
+  pub slot-written : (b a : List ℕ) (r : ℕ) → Written (nameText temporary (take (i * 19 + 19 - i * 19) (drop (i * 19) names))) b a r → Written (nameText temporary (nameOf names i)) b a r
+  slot-written b a r w = rw (← slot) w
+
+-- ---- a trade's print
+
+module _ (name : List ℕ) (t : TradePlan) where
+  pub no-print : t .prints ≡ false → printText name t ≡ []
+  unfolding printText opt
+  no-print h = rw h
+
+  pub some-print : t .prints ≡ true → printText name t ≡ sideText name (t .network) (t .unit) (t .full) (t .shows) (t .side)
+  unfolding printText opt
+  some-print h = rw h
+
+pub ruleset prints = (no-print, some-print)
+
+-- ---- room for it
+
+module _ (st : Settings) (name : List ℕ) (p : Plan) (room k : ℕ) (known : k ≡ length (textOf st name p)) where
+  pub told-short : room < k → Stop Room ≡ fittedOf st name p room
+  unfolding fittedOf
+  told-short h = pick-yes _ _ _ _ (rw (← known) (lt-ltb room k h)) refl
+
+  pub told-fits : k ≤ room → p ≡ fittedOf st name p room
+  unfolding fittedOf
+  told-fits h = pick-no _ _ _ _ (rw (← known) (le-ltb room k h)) refl
+
+-- a call that stops prints nothing and owes nothing
+stop-sound : (line : List ℕ) → SoundPlan line (Stop Room)
+unfolding SoundPlan
+stop-sound line = tt
+
+stop-room : (st : Settings) (name : List ℕ) (room : ℕ) → length (textOf st name (Stop Room)) ≤ room
+unfolding textOf
+stop-room st name room = omega arith
+
+stop-print : (st : Settings) (names name : List ℕ) → textOf st name (Stop Room) ≡ printOf st names (Stop Room)
+unfolding textOf printOf
+stop-print st names name = refl
+
+some-plan : (st : Settings) (names : List ℕ) (p : Plan) → textOf st (printedName names p) p ≡ printOf st names p
+unfolding printOf
+some-plan st names p = refl
+
+-- either it fits, or the call stops
+fitted-by : (A : Plan → Type 0) (st : Settings) (name : List ℕ) (p : Plan) (room : ℕ) → (ltb room (length (textOf st name p)) ≡ true → A (Stop Room)) → (ltb room (length (textOf st name p)) ≡ false → A p) → A (fittedOf st name p room)
+unfolding fittedOf pick
+fitted-by A st name p room f g = go (ltb room (length (textOf st name p))) f g
+  where
+    go : (b : Bool) → (b ≡ true → A (Stop Room)) → (b ≡ false → A p) → A (pick b (Stop Room) p)
+    go true f g = f refl
+    go false f g = g refl
+
+module _ (st : Settings) (name line : List ℕ) (p q : Plan) (room : ℕ) (fitted : q ≡ fittedOf st name p room) where
+  pub fitted-sound : SoundPlan line p → SoundPlan line q
+  fitted-sound h = rw fitted (fitted-by (λ x. SoundPlan line x) st name p room (λ e. stop-sound line) (λ e. h))
+
+  pub fitted-room : length (textOf st name q) ≤ room
+  fitted-room = rw fitted (fitted-by (λ x. length (textOf st name x) ≤ room) st name p room (λ e. stop-room st name room) (λ e. ltb-false room (length (textOf st name p)) e))
+
+-- the name that was written for the line's plan serves for what is left of it
+fitted-print : (st : Settings) (names : List ℕ) (p : Plan) (room : ℕ) → textOf st (printedName names p) (fittedOf st (printedName names p) p room) ≡ printOf st names (fittedOf st (printedName names p) p room)
+fitted-print st names p room = fitted-by (λ x. textOf st (printedName names p) x ≡ printOf st names x) st (printedName names p) p room (λ e. stop-print st names (printedName names p)) (λ e. some-plan st names p)
+
+plan-print : (st : Settings) (names : List ℕ) (p q : Plan) (room : ℕ) → q ≡ fittedOf st (printedName names p) p room → textOf st (printedName names p) q ≡ printOf st names q
+plan-print st names p q room e = rw e (fitted-print st names p room)
+
+asked-is : (st : Settings) (table names line : List ℕ) (room : ℕ) (p : Plan) → p ≡ planOf st table names line → fittedOf st (printedName names p) p room ≡ asked st table names line room
+unfolding asked
+asked-is st table names line room p e = rw e
+
+-- ---- the whole call
+
+module _ (st : Settings) (table names line tape table′ names′ tape′ b a : List ℕ) (p q : Plan) (n k : ℕ) (o : Outcome) (s : Settings) where
+  pub taken : p ≡ planOf st table names line → Written (printedName names p) b a n → q ≡ fittedOf st (take n a) p (length tape) → Written (textOf st (take n a) q) tape tape′ k
+      → table′ ≡ tableAfter table q → names′ ≡ namesAfter names line q → o ≡ outcomeOf q k → s ≡ settingsAfter st q
+      → Taken st table names line tape table′ names′ tape′ (record { outcome = o; settings = s })
+  taken e w f v t m x y =
+      let name : take n a ≡ printedName names p = front w in
+      let is : q ≡ asked st table names line (length tape) = f ∙ (ap (λ (z : List ℕ). fittedOf st z p (length tape)) name ∙ asked-is st table names line (length tape) p e) in
+      let text : textOf st (take n a) q ≡ printOf st names q = ap (λ (z : List ℕ). textOf st z q) name ∙ plan-print st names p q (length tape) (f ∙ ap (λ (z : List ℕ). fittedOf st z p (length tape)) name) in
+      record {
+        outcome = x ∙ (ap (outcomeOf q) (v .count-is ∙ ap length text) ∙ ap (λ (z : Plan). outcomeOf z (length (printOf st names z))) is);
+        settings = y ∙ ap (settingsAfter st) is;
+        table-is = t ∙ ap (tableAfter table) is;
+        names-is = m ∙ ap (namesAfter names line) is;
+        tape-is = v .tape ∙ (ap (λ (z : List ℕ). put z tape) text ∙ ap (λ (z : Plan). put (printOf st names z) tape) is);
+      }

@@ -1,0 +1,240 @@
+// The engine: one call takes one line. Any bytes of any length are a line; the state is settings by value and two lent tables
+// of fixed size, every value of which has a meaning; the tape is lent, of any length. Nothing is required. The promise is
+// `Taken`: the outcome, the settings, every byte of both tables and every byte of the tape.
+use planner::Plan;
+use planner::TradePlan;
+use rules::Mode;
+use rules::Refusal;
+use rules::Settings;
+ghost use mathlib.Core.Path.{_≡_};
+ghost use Prim.Native.Nat.{_≤_, _<_};
+ghost use lib.ListN.{length};
+ghost use Rattle.text.specs.Put.{Written};
+ghost use Rattle.rules.specs.Names.{nameText};
+ghost use Rattle.rules.specs.Day.{opened};
+ghost use Rattle.table.specs.Rows.{nameOf, withName};
+ghost use Rattle.engine.specs.Taken.{SoundPrint, SoundPlan, printedName, printText, textOf, fittedOf, settingsAfter, tableAfter, namesAfter, outcomeOf, Taken};
+
+// Accepted, with the length of its print, 0 where nothing prints; or refused.
+pub enum Outcome {
+    Accepted(usize),
+    Refused(Refusal),
+}
+
+pub struct Answer {
+    pub outcome: Outcome,
+    pub settings: Settings,
+}
+
+// ---- the name as it prints
+
+fn write_name(buffer: &mut [u8], names: &[u8; 9728], place: usize, temporary: bool) -> usize
+    requires { ⌜ (place < 512) × (22 ≤ length (now buffer)) ⌝ }
+    ensures { λ r. ⌜ Written (nameText temporary (nameOf (now (names .entry)) place)) (now (buffer .entry)) (now (buffer .exit)) r ⌝ }
+{
+    let all = &names[..];
+    let from = place * 19;
+    let to = from + 19;
+    symbol::write_name(buffer, &all[from..to], temporary)
+}
+
+fn write_printed_name(buffer: &mut [u8], names: &[u8; 9728], line: &[u8], p: Plan) -> usize
+    requires { ⌜ SoundPlan (now line) p × (22 ≤ length (now buffer)) ⌝ }
+    ensures { λ r. ⌜ Written (printedName (now (names .entry)) p) (now (buffer .entry)) (now (buffer .exit)) r ⌝ }
+{
+    match p {
+        Plan::Stop(_) => 0,
+        Plan::Open(_) => 0,
+        Plan::Enter(_, _) => 0,
+        Plan::Change(_) => 0,
+        Plan::Level(_) => 0,
+        Plan::Step(_) => 0,
+        Plan::Print(t) => write_name(buffer, names, t.place, t.temporary),
+    }
+}
+
+// ---- the print: its length, whether it fits, its writer
+
+fn print_length(name: &[u8], t: TradePlan) -> usize
+    requires { ⌜ SoundPrint t ⌝ }
+    ensures { λ r. ⌜ r ≡ length (printText (now (name .entry)) t) ⌝ }
+{
+    let side = t.side;
+    if t.prints {
+        return trade::side_length(name, t.network, t.unit, t.full, t.shows, side);
+    }
+    0
+}
+
+fn text_length(st: Settings, name: &[u8], line: &[u8], p: Plan) -> usize
+    requires { ⌜ SoundPlan (now line) p ⌝ }
+    ensures { λ r. ⌜ r ≡ length (textOf st (now (name .entry)) p) ⌝ }
+{
+    let mode = st.mode;
+    match p {
+        Plan::Stop(_) => 0,
+        Plan::Open(_) => 0,
+        Plan::Enter(_, _) => 0,
+        Plan::Change(m) => announcement::mode_length(m, st.minimum),
+        Plan::Level(n) => announcement::level_length(n),
+        Plan::Step(n) => announcement::step_length(mode, n),
+        Plan::Print(t) => print_length(name, t),
+    }
+}
+
+// 13: the lent tape is shorter than the print.
+fn fitted(st: Settings, name: &[u8], line: &[u8], p: Plan, room: usize) -> Plan
+    requires { ⌜ SoundPlan (now line) p ⌝ }
+    ensures { λ r. ⌜ r ≡ fittedOf st (now (name .entry)) p room ⌝ }
+{
+    if room < text_length(st, name, line, p) {
+        return Plan::Stop(Refusal::Room);
+    }
+    p
+}
+
+fn write_print(rest: &mut [u8], name: &[u8], t: TradePlan) -> usize
+    requires { ⌜ SoundPrint t × (length (printText (now name) t) ≤ length (now rest)) ⌝ }
+    ensures { λ r. ⌜ Written (printText (now (name .entry)) t) (now (rest .entry)) (now (rest .exit)) r ⌝ }
+{
+    let side = t.side;
+    if t.prints {
+        return trade::write_side(rest, name, t.network, t.unit, t.full, t.shows, side);
+    }
+    0
+}
+
+fn write_text(rest: &mut [u8], st: Settings, name: &[u8], line: &[u8], p: Plan) -> usize
+    requires { ⌜ SoundPlan (now line) p × (length (textOf st (now name) p) ≤ length (now rest)) ⌝ }
+    ensures { λ r. ⌜ Written (textOf st (now (name .entry)) p) (now (rest .entry)) (now (rest .exit)) r ⌝ }
+{
+    let mode = st.mode;
+    match p {
+        Plan::Stop(_) => 0,
+        Plan::Open(_) => 0,
+        Plan::Enter(_, _) => 0,
+        Plan::Change(m) => announcement::write_mode(rest, m, st.minimum),
+        Plan::Level(n) => announcement::write_level(rest, n),
+        Plan::Step(n) => announcement::write_step(rest, mode, n),
+        Plan::Print(t) => write_print(rest, name, t),
+    }
+}
+
+// ---- the state after
+
+fn opened_on(date: u64) -> Settings
+    ensures { λ r. ⌜ r ≡ opened date ⌝ }
+{
+    Settings {
+        date: date,
+        mode: Mode::Normal,
+        level: 5000,
+        minimum: 1,
+    }
+}
+
+fn settings_after(st: Settings, p: Plan) -> Settings
+    ensures { λ r. ⌜ r ≡ settingsAfter st p ⌝ }
+{
+    let mode = st.mode;
+    match p {
+        Plan::Stop(_) => st,
+        Plan::Open(n) => opened_on(n),
+        Plan::Enter(_, _) => st,
+        Plan::Change(m) => Settings {
+            date: st.date,
+            mode: m,
+            level: st.level,
+            minimum: st.minimum,
+        },
+        Plan::Level(n) => Settings {
+            date: st.date,
+            mode: mode,
+            level: n,
+            minimum: st.minimum,
+        },
+        Plan::Step(n) => Settings {
+            date: st.date,
+            mode: mode,
+            level: st.level,
+            minimum: n,
+        },
+        Plan::Print(_) => st,
+    }
+}
+
+fn update_table(table: &mut [u64; 5632], line: &[u8], p: Plan)
+    requires { ⌜ SoundPlan (now line) p ⌝ }
+    ensures { λ _. ⌜ now (table .exit) ≡ tableAfter (now (table .entry)) p ⌝ }
+{
+    match p {
+        Plan::Stop(_) => {}
+        Plan::Open(_) => table::clear(table),
+        Plan::Enter(i, s) => table::store(table, i, s),
+        Plan::Change(_) => {}
+        Plan::Level(_) => {}
+        Plan::Step(_) => {}
+        Plan::Print(t) => table::store(table, t.place, t.after),
+    }
+}
+
+fn update_names(names: &mut [u8; 9728], line: &[u8], p: Plan)
+    requires { ⌜ SoundPlan (now line) p ⌝ }
+    ensures { λ _. ⌜ now (names .exit) ≡ namesAfter (now (names .entry)) (now (line .entry)) p ⌝ }
+{
+    match p {
+        Plan::Stop(_) => {}
+        Plan::Open(_) => table::clear_names(names),
+        Plan::Enter(i, _) => table::store_name(names, i, &line[5..24]),
+        Plan::Change(_) => {}
+        Plan::Level(_) => {}
+        Plan::Step(_) => {}
+        Plan::Print(_) => {}
+    }
+}
+
+fn outcome_of(p: Plan, n: usize) -> Outcome
+    ensures { λ r. ⌜ r ≡ outcomeOf p n ⌝ }
+{
+    match p {
+        Plan::Stop(r) => Outcome::Refused(r),
+        Plan::Open(_) => Outcome::Accepted(n),
+        Plan::Enter(_, _) => Outcome::Accepted(n),
+        Plan::Change(_) => Outcome::Accepted(n),
+        Plan::Level(_) => Outcome::Accepted(n),
+        Plan::Step(_) => Outcome::Accepted(n),
+        Plan::Print(_) => Outcome::Accepted(n),
+    }
+}
+
+// ---- the entry points
+
+// The settings of a fresh state: no D accepted yet. The lent tables may hold anything until a D line clears them.
+pub fn fresh() -> Settings
+    ensures { λ r. ⌜ r ≡ opened 0 ⌝ }
+{
+    opened_on(0)
+}
+
+// One call.
+pub fn take_line(
+    st: Settings,
+    table: &mut [u64; 5632],
+    names: &mut [u8; 9728],
+    line: &[u8],
+    tape: &mut [u8],
+) -> Answer
+    ensures { λ r. ⌜ Taken st (now (table .entry)) (now (names .entry)) (now (line .entry)) (now (tape .entry)) (now (table .exit)) (now (names .exit)) (now (tape .exit)) r ⌝ }
+{
+    let asked = planner::plan_line(st, table, names, line);
+    let mut buffer = [0u8; 22];
+    let n = write_printed_name(&mut buffer, names, line, asked);
+    let p = fitted(st, &buffer[..n], line, asked, tape.len());
+    let k = write_text(tape, st, &buffer[..n], line, p);
+    update_table(table, line, p);
+    update_names(names, line, p);
+    Answer {
+        outcome: outcome_of(p, k),
+        settings: settings_after(st, p),
+    }
+}
