@@ -170,6 +170,6 @@ side-back name network unit full shows x s o e =
     let v : Shown = pick shows (shownOf network unit (x .volume)) unsaid in
     let m : NoMore t = record { digit = tail-digit x s (e .digit); dot = tail-dot x s (e .dot) } in
     let k : markAt ((figures 0 p) .rest) ≡ none = rw (run-is full (x .price) t m) (tail-mark x s (e .mark)) in
-    let w : readVolume (shownText v ++ p) ≡ found v p = shown-back v p (within-if shows _ (shown-within network unit (x .volume) (o .volume))) k in
+    let w : readVolume (shownText v ++ p) ≡ found v p = shown-back v p (within-if shows _ (shown-within network unit (x .volume) (o .volume))) (lower-price full (x .price) t (o .price)) k in
     let u : span isUpper (headText name (x .letters) ++ (shownText v ++ p)) ≡ found (headText name (x .letters)) (shownText v ++ p) = span-all isUpper _ _ (o .upper) (lower-shown v p (lower-price full (x .price) t (o .price))) in
     rw (append-assoc, append-assoc, append-assoc, shown-if shows network unit (x .volume), u, w, price-back full (x .price) t (o .decimals) m, tail-back x s (o .previous) e)

@@ -12,6 +12,7 @@ use Rattle.text.specs.Pick.{pick}
 use Rattle.text.specs.Decimal.{decimal, places}
 use Rattle.text.specs.Reading.{Read, found, heads, isDigit, starts, past}
 use Rattle.text.proofs.Reading.{digit-yes, onto, places-head}
+use Rattle.rules.specs.Tape.{isUpper}
 use Rattle.rules.specs.Volume.{group, fullVolume, isRound, inShares, inHundreds, inTens, volumeText}
 use Rattle.volumes.specs.Reading.{Figure, digit, dot, stop, figure, figures, Mark, hundreds, tens, shares, markText, markAt, Shown, unsaid, said, shownAt, readVolume, sharesOf, shownOf, shownText}
 use Rattle.text.specs.Reading.{dotDigit}
@@ -88,23 +89,23 @@ volume-shown network unit v = go (not (isRound unit v) || (eqb network 66 && ltb
 
 -- ---- read back
 
-mark-there : (m : Mark) (s : List ℕ) → (markAt (markText m ++ s) ≡ some m) × (past (markText m) (markText m ++ s) ≡ s) × (heads isDigit (markText m ++ s) ≡ false) × (dotDigit (markText m ++ s) ≡ false)
+mark-there : (m : Mark) (s : List ℕ) → heads isUpper s ≡ false → (markAt (markText m ++ s) ≡ some m) × (past (markText m) (markText m ++ s) ≡ s) × (heads isDigit (markText m ++ s) ≡ false) × (dotDigit (markText m ++ s) ≡ false)
 unfolding markAt markText isDigit dotDigit starts past pick
-mark-there hundreds s = (refl, refl, refl, refl)
-mark-there tens s = (refl, refl, refl, refl)
-mark-there shares s = (refl, refl, refl, refl)
+mark-there hundreds s u = (refl, refl, refl, refl)
+mark-there tens s u = (refl, refl, refl, refl)
+mark-there shares s u = (rw u, refl, refl, refl)
 
 -- the figures shown are within nine digits
 pub data Within : Shown → Type 0 where
   unsaid-within : Within unsaid
   said-within : {n : ℕ} {m : Mark} → n < 1000000000 → Within (said n m)
 
--- before a rest whose own figures no mark follows
-pub shown-back : (x : Shown) (s : List ℕ) → Within x → markAt ((figures 0 s) .rest) ≡ none → readVolume (shownText x ++ s) ≡ found x s
+-- before a rest in the lower row whose own figures no mark follows
+pub shown-back : (x : Shown) (s : List ℕ) → Within x → heads isUpper s ≡ false → markAt ((figures 0 s) .rest) ≡ none → readVolume (shownText x ++ s) ≡ found x s
 unfolding readVolume shownText shownAt
-shown-back unsaid s w h = rw h
-shown-back (said n m) s (said-within w) h =
-    let t = mark-there m s in
+shown-back unsaid s w u h = rw h
+shown-back (said n m) s (said-within w) u h =
+    let t = mark-there m s u in
     let e : figures 0 (fullVolume n ++ (markText m ++ s)) ≡ found n (markText m ++ s) = figures-volume n (markText m ++ s) w ∙ figures-stop n (markText m ++ s) (t .2) (t .3) in
     rw (append-assoc, e, t .0, t .1)
 
@@ -122,8 +123,8 @@ shown-within network unit v h =
     (within-pick _ _ _ (within-pick _ _ _ (said-within (omega arith)) (said-within h)) (said-within h)))
 
 -- THE VOLUME COMES BACK: what is shown, and by it the number of shares
-pub volume-back : (network unit v : ℕ) (s : List ℕ) → v < 1000000000 → markAt ((figures 0 s) .rest) ≡ none → readVolume (volumeText network unit v ++ s) ≡ found (shownOf network unit v) s
-volume-back network unit v s h k = rw (volume-shown network unit v) (shown-back (shownOf network unit v) s (shown-within network unit v h) k)
+pub volume-back : (network unit v : ℕ) (s : List ℕ) → v < 1000000000 → heads isUpper s ≡ false → markAt ((figures 0 s) .rest) ≡ none → readVolume (volumeText network unit v ++ s) ≡ found (shownOf network unit v) s
+volume-back network unit v s h u k = rw (volume-shown network unit v) (shown-back (shownOf network unit v) s (shown-within network unit v h) u k)
 
 or-false : (a b : Bool) → (a || b) ≡ false → a ≡ false
 or-false true b h = h

@@ -7,6 +7,7 @@ use lib.Dec.{eqb, leb, ltb}
 use Rattle.text.specs.Bytes.{bytes}
 use Rattle.text.specs.Pick.{pick}
 use Rattle.text.specs.Reading.{Read, found, heads, isDigit, starts, past}
+use Rattle.rules.specs.Tape.{isUpper}
 use Rattle.rules.specs.Volume.{fullVolume, isRound}
 
 -- ---- figures: digits, and figure dots that stand before a digit
@@ -32,8 +33,12 @@ markText hundreds = bytes "s"
 markText tens = bytes "$"
 markText shares = bytes "SHRS"
 
+-- SHRS is a mark where the upper row ends with it: a longer run is a name's
 unfoldable pub markAt : List ℕ → Option Mark
-markAt s = pick (starts (bytes "s") s) (some hundreds) (pick (starts (bytes "$") s) (some tens) (pick (starts (bytes "SHRS") s) (some shares) none))
+markAt s =
+    pick (starts (bytes "s") s) (some hundreds)
+    (pick (starts (bytes "$") s) (some tens)
+    (pick (starts (bytes "SHRS") s && not (heads isUpper (past (bytes "SHRS") s))) (some shares) none))
 
 -- what is shown of a volume: nothing, or figures with a mark
 pub data Shown : Type 0 where
