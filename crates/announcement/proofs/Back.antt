@@ -23,7 +23,7 @@ use Rattle.volumes.proofs.VolumeBack.{figures-volume, figures-stop}
 use Rattle.announcement.specs.Reading.{Told, normal, dvd, rpo, minimum, level, readMinimum, readLevel, readAnnouncement}
 
 -- what is told of a mode
-pub told : Mode → ℕ → Told
+unfoldable pub told : Mode → ℕ → Told
 told Normal k = normal
 told Dvd k = dvd
 told Rpo k = rpo

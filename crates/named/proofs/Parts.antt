@@ -92,7 +92,7 @@ unfoldable pub each : (List ℕ → Bool) → List (List ℕ) → Bool
 each f [] = true
 each f (x ∷ l) = f x && each f l
 
-member-each : (f : List ℕ → Bool) (l : List (List ℕ)) (s : List ℕ) → each f l ≡ true → member s l ≡ true → f s ≡ true
+pub member-each : (f : List ℕ → Bool) (l : List (List ℕ)) (s : List ℕ) → each f l ≡ true → member s l ≡ true → f s ≡ true
 unfolding member each
 member-each f [] s h m = absurd (false-true m)
 member-each f (x ∷ l) s h m =

@@ -1,0 +1,4 @@
+pub mod Sides
+pub mod Lookup
+pub mod Fresh
+pub mod Undone
