@@ -173,3 +173,7 @@ side-back name network unit full shows x s o e =
     let w : readVolume (shownText v ++ p) ≡ found v p = shown-back v p (within-if shows _ (shown-within network unit (x .volume) (o .volume))) (lower-price full (x .price) t (o .price)) k in
     let u : span isUpper (headText name (x .letters) ++ (shownText v ++ p)) ≡ found (headText name (x .letters)) (shownText v ++ p) = span-all isUpper _ _ (o .upper) (lower-shown v p (lower-price full (x .price) t (o .price))) in
     rw (append-assoc, append-assoc, append-assoc, shown-if shows network unit (x .volume), u, w, price-back full (x .price) t (o .decimals) m, tail-back x s (o .previous) e)
+
+-- what follows a head is in the lower row
+pub side-lower : (network unit v : ℕ) (full shows : Bool) (p : Price) (s : List ℕ) → 1 ≤ p .n → heads isUpper (opt shows (volumeText network unit v) ++ (priceText full p ++ s)) ≡ false
+side-lower network unit v full shows p s h = rw (shown-if shows network unit v) (lower-shown (pick shows (shownOf network unit v) unsaid) (priceText full p ++ s) (lower-price full p s h))

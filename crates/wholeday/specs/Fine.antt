@@ -1,0 +1,45 @@
+-- What an accepted line owes to the day that it found. Assumes nothing.
+use Prim.Native.Nat.{ℕ, _≤_, _<_}
+use mathlib.Core.Path.{_≡_}
+use mathlib.Core.Bool.{Bool, true, false}
+use mathlib.Core.List.{List}
+use Rattle.rules.specs.Day.{Day, securityAt, isEntered, takenName}
+use Rattle.rules.specs.declared.Listing.{Listing}
+use Rattle.rules.specs.declared.Trade.{Trade}
+use Rattle.rules.specs.declared.Correction.{Correction}
+use Rattle.rules.specs.declared.Line.{Line}
+use Rattle.rules.specs.declared.Line.the-variants.{Dated, Listed, Moded, Leveled, Stepped, Traded, Cancelled, Erred, Corrected}
+use Rattle.named.specs.Plain.{NamePlain}
+use Rattle.decoder.specs.Lawful.{LawfulSide}
+
+pub record FineListing (day : Day) (name : List ℕ) (l : Listing) : Type 0 where
+  pub low : 1 ≤ l .number
+  pub high : l .number ≤ 512
+  pub unit-is : 1 ≤ l .unit
+  pub plain : NamePlain (l .network) name
+  pub vacant-place : isEntered (securityAt day (l .number)) ≡ false
+  pub free-name : takenName name (day .securities) (day .names) ≡ false
+
+pub record FineTrade (day : Day) (t : Trade) : Type 0 where
+  pub low : 1 ≤ t .security
+  pub high : t .security ≤ 512
+  pub entered-there : isEntered (securityAt day (t .security)) ≡ true
+  pub side-is : LawfulSide (t .side)
+
+pub record FineCorrection (day : Day) (c : Correction) : Type 0 where
+  pub low : 1 ≤ c .security
+  pub high : c .security ≤ 512
+  pub entered-there : isEntered (securityAt day (c .security)) ≡ true
+  pub original-is : LawfulSide (c .original)
+  pub correcting-is : LawfulSide (c .correcting)
+
+unfoldable pub Fine : Day → List ℕ → Line → Type 0
+Fine day name (Dated n) = Unit {0}
+Fine day name (Listed l) = FineListing day name l
+Fine day name (Moded m) = Unit {0}
+Fine day name (Leveled n) = n < 1000000000
+Fine day name (Stepped n) = Unit {0}
+Fine day name (Traded t) = FineTrade day t
+Fine day name (Cancelled t) = FineTrade day t
+Fine day name (Erred t) = FineTrade day t
+Fine day name (Corrected c) = FineCorrection day c
