@@ -1,0 +1,180 @@
+// Corrections, cancels and errors as texts (document 01, "Corrections and cancels"): the length of each and its writer,
+// which is lent the rest of the tape. Their sides are those of trades.
+use rules::Letters;
+use rules::Side;
+ghost use mathlib.Core.Path.{_≡_};
+ghost use Prim.Native.Nat.{_+_, _≤_};
+ghost use lib.ListN.{length};
+ghost use Rattle.text.specs.Pick.{pick, opt};
+ghost use Rattle.text.specs.Put.{Written};
+ghost use Rattle.rules.specs.Side.{sideText};
+ghost use Rattle.rules.specs.Correction.{repeatsName, endPair, correctionText, cancelText, cancelOpening, errorOpening};
+
+// ---- parts
+
+// Any of S L O C K N M B.
+fn repeats_name(x: Letters) -> bool
+    ensures { λ r. ⌜ r ≡ repeatsName x ⌝ }
+{
+    if x.s {
+        return true;
+    }
+    if x.l {
+        return true;
+    }
+    if x.o {
+        return true;
+    }
+    if x.c {
+        return true;
+    }
+    if x.k {
+        return true;
+    }
+    if x.n {
+        return true;
+    }
+    if x.m {
+        return true;
+    }
+    x.b
+}
+
+// The end pair, unless a closing G pair serves as it.
+fn end_pair_length(x: Side) -> usize
+    ensures { λ r. ⌜ (r ≡ length (endPair x)) × (r ≤ 2) ⌝ }
+{
+    let letters = x.letters;
+    text::optional_length(!letters.g, b">>")
+}
+
+fn write_end_pair(rest: &mut [u8], x: Side) -> usize
+    requires { ⌜ length (endPair x) ≤ length (now rest) ⌝ }
+    ensures { λ r. ⌜ Written (endPair x) (now (rest .entry)) (now (rest .exit)) r ⌝ }
+{
+    let letters = x.letters;
+    text::write_optional(rest, !letters.g, b">>")
+}
+
+// The correcting trade, with its name or without.
+fn correcting_length(
+    name: &[u8],
+    network: u64,
+    unit: u64,
+    full: bool,
+    shows: bool,
+    y: Side,
+) -> usize
+    requires { ⌜ (1 ≤ unit) × (y .price .d ≤ 8) × (y .previous .d ≤ 8) ⌝ }
+    ensures { λ r. ⌜ (r ≡ length (sideText (opt (repeatsName (y .letters)) (now (name .entry))) network unit full shows y)) × (r ≤ length (now (name .entry)) + 161) ⌝ }
+{
+    let letters = y.letters;
+    if repeats_name(letters) {
+        return trade::side_length(name, network, unit, full, shows, y);
+    }
+    trade::side_length(&name[..0], network, unit, full, shows, y)
+}
+
+fn write_correcting(
+    rest: &mut [u8],
+    name: &[u8],
+    network: u64,
+    unit: u64,
+    full: bool,
+    shows: bool,
+    y: Side,
+) -> usize
+    requires { ⌜ (1 ≤ unit) × (y .price .d ≤ 8) × (y .previous .d ≤ 8) × (length (sideText (opt (repeatsName (y .letters)) (now name)) network unit full shows y) ≤ length (now rest)) ⌝ }
+    ensures { λ r. ⌜ Written (sideText (opt (repeatsName (y .letters)) (now (name .entry))) network unit full shows y) (now (rest .entry)) (now (rest .exit)) r ⌝ }
+{
+    let letters = y.letters;
+    if repeats_name(letters) {
+        return trade::write_side(rest, name, network, unit, full, shows, y);
+    }
+    trade::write_side(rest, &name[..0], network, unit, full, shows, y)
+}
+
+// `<<ERR.` or `<<CXL.`.
+fn write_opening(rest: &mut [u8], error: bool) -> usize
+    requires { ⌜ length (pick error errorOpening cancelOpening) ≤ length (now rest) ⌝ }
+    ensures { λ r. ⌜ Written (pick error errorOpening cancelOpening) (now (rest .entry)) (now (rest .exit)) r ⌝ }
+{
+    if error {
+        return text::write_bytes(rest, b"<<ERR.");
+    }
+    text::write_bytes(rest, b"<<CXL.")
+}
+
+// ---- cancels and errors
+
+pub fn cancel_length(
+    error: bool,
+    name: &[u8],
+    network: u64,
+    unit: u64,
+    full: bool,
+    shows: bool,
+    x: Side,
+) -> usize
+    requires { ⌜ (1 ≤ unit) × (x .price .d ≤ 8) × (x .previous .d ≤ 8) ⌝ }
+    ensures { λ r. ⌜ r ≡ length (cancelText (pick error errorOpening cancelOpening) (now (name .entry)) network unit full shows x) ⌝ }
+{
+    6 + trade::side_length(name, network, unit, full, shows, x) + end_pair_length(x)
+}
+
+pub fn write_cancel(
+    rest: &mut [u8],
+    error: bool,
+    name: &[u8],
+    network: u64,
+    unit: u64,
+    full: bool,
+    shows: bool,
+    x: Side,
+) -> usize
+    requires { ⌜ (1 ≤ unit) × (x .price .d ≤ 8) × (x .previous .d ≤ 8) × (length (cancelText (pick error errorOpening cancelOpening) (now name) network unit full shows x) ≤ length (now rest)) ⌝ }
+    ensures { λ r. ⌜ Written (cancelText (pick error errorOpening cancelOpening) (now (name .entry)) network unit full shows x) (now (rest .entry)) (now (rest .exit)) r ⌝ }
+{
+    let at = write_opening(rest, error);
+    let at2 = at + trade::write_side(&mut rest[at..], name, network, unit, full, shows, x);
+    at2 + write_end_pair(&mut rest[at2..], x)
+}
+
+// ---- corrections
+
+pub fn correction_length(
+    name: &[u8],
+    network: u64,
+    unit: u64,
+    full: bool,
+    shows: bool,
+    x: Side,
+    y: Side,
+) -> usize
+    requires { ⌜ (1 ≤ unit) × (x .price .d ≤ 8) × (x .previous .d ≤ 8) × (y .price .d ≤ 8) × (y .previous .d ≤ 8) × (length (now name) ≤ 22) ⌝ }
+    ensures { λ r. ⌜ r ≡ length (correctionText (now (name .entry)) network unit full shows x y) ⌝ }
+{
+    let a = trade::side_length(name, network, unit, full, shows, x);
+    let b = correcting_length(name, network, unit, full, shows, y);
+    7 + a + 4 + b + end_pair_length(y)
+}
+
+pub fn write_correction(
+    rest: &mut [u8],
+    name: &[u8],
+    network: u64,
+    unit: u64,
+    full: bool,
+    shows: bool,
+    x: Side,
+    y: Side,
+) -> usize
+    requires { ⌜ (1 ≤ unit) × (x .price .d ≤ 8) × (x .previous .d ≤ 8) × (y .price .d ≤ 8) × (y .previous .d ≤ 8) × (length (correctionText (now name) network unit full shows x y) ≤ length (now rest)) ⌝ }
+    ensures { λ r. ⌜ Written (correctionText (now (name .entry)) network unit full shows x y) (now (rest .entry)) (now (rest .exit)) r ⌝ }
+{
+    let at = text::write_bytes(rest, b"<<CORR.");
+    let at2 = at + trade::write_side(&mut rest[at..], name, network, unit, full, shows, x);
+    let at3 = at2 + text::write_bytes(&mut rest[at2..], b"WAS.");
+    let at4 = at3 + write_correcting(&mut rest[at3..], name, network, unit, full, shows, y);
+    at4 + write_end_pair(&mut rest[at4..], y)
+}
