@@ -19,33 +19,62 @@ use Rattle.rules.specs.Columns.{isBlank, notBlank, blank, word, filled, isRoot}
 pub to-end : (s : List ℕ) (i : ℕ) → take (length s - i) (drop i s) ≡ drop i s
 to-end s i = take-all (length s - i) (drop i s) (rw length-drop (omega arith))
 
--- ---- every byte passes: x is the answer
+-- ---- every byte passes. Each is looked at, so that many are at once: `others` is 0 as long as none was found that does not pass
 
-module _ (p : ℕ → Bool) (s : List ℕ) (i : ℕ) (x : Bool) (e : all p (drop i s) ≡ x) where
-  pub all-no : (r : Bool) → i < length s → r ≡ p (getD s i 0) → not r ≡ true → false ≡ x
+and-shut : (b : Bool) → (b && false) ≡ false
+and-shut true = refl
+and-shut false = refl
+
+module _ (p : ℕ → Bool) (s : List ℕ) (others i : ℕ) (so : (eqb others 0 && all p (drop i s)) ≡ all p s) where
+  one-more : i < length s → all p (drop i s) ≡ (p (getD s i 0) && all p (drop (i + 1) s))
   unfolding all
-  all-no r h q k = rw (← e, drop-cons s i 0 h, ← q, not-true r k)
+  one-more h = rw (drop-cons s i 0 h, add-one)
 
-  pub all-more : (r : Bool) → i < length s → r ≡ p (getD s i 0) → not r ≡ false → all p (drop (i + 1) s) ≡ x
+  pub other-found : (k : ℕ) → k ≡ 1 → i < length s → p (getD s i 0) ≡ false → (eqb k 0 && all p (drop (i + 1) s)) ≡ all p s
+  other-found k e h q =
+      let z : (eqb others 0 && all p (drop i s)) ≡ false = rw (one-more h, q) (and-shut (eqb others 0)) in
+      rw e (sym z ∙ so)
+
+  pub none-found : (k : ℕ) → k ≡ others → i < length s → p (getD s i 0) ≡ true → (eqb k 0 && all p (drop (i + 1) s)) ≡ all p s
+  none-found k e h q = let z : all p (drop i s) ≡ all p (drop (i + 1) s) = rw (one-more h, q) in rw (e, ← z) so
+
+  all-looked : length s ≤ i → eqb others 0 ≡ all p s
   unfolding all
-  all-more r h q k = rw (← e, drop-cons s i 0 h, ← q, not-false r k, add-one)
+  all-looked h = sym (and-open (eqb others 0)) ∙ (ap (λ (l : List ℕ). eqb others 0 && all p l) (sym (drop-of-length-le s h)) ∙ so)
+    where
+      and-open : (b : Bool) → (b && true) ≡ b
+      and-open true = refl
+      and-open false = refl
 
-  pub all-end : length s ≤ i → true ≡ x
-  unfolding all
-  all-end h = rw (← e, drop-of-length-le s h)
+  -- as a callee told it
+  pub told-found : (k : ℕ) (r : Bool) → k ≡ 1 → i < length s → r ≡ p (getD s i 0) → not r ≡ true → (eqb k 0 && all p (drop (i + 1) s)) ≡ all p s
+  told-found k r e h q w = other-found k e h (sym q ∙ not-true r w)
 
-module _ (s : List ℕ) (i : ℕ) (x : Bool) (e : blank (drop i s) ≡ x) where
-  pub part-no : i < length s → (getD s i 0 ≡ 32 → ⊥) → false ≡ x
-  unfolding blank all isBlank
-  part-no h q = rw (← e, drop-cons s i 0 h, ne-eqb _ 32 q)
+  pub told-none : (k : ℕ) (r : Bool) → k ≡ others → i < length s → r ≡ p (getD s i 0) → not r ≡ false → (eqb k 0 && all p (drop (i + 1) s)) ≡ all p s
+  told-none k r e h q w = none-found k e h (sym q ∙ not-false r w)
 
-  pub part-more : i < length s → getD s i 0 ≡ 32 → blank (drop (i + 1) s) ≡ x
-  unfolding blank all isBlank
-  part-more h q = rw (← e, drop-cons s i 0 h, eq-eqb _ 32 q, add-one)
+  pub all-passed : length s ≤ i → others ≡ 0 → true ≡ all p s
+  all-passed h e = sym (eq-eqb others 0 e) ∙ all-looked h
 
-  pub part-end : length s ≤ i → true ≡ x
-  unfolding blank all
-  part-end h = rw (← e, drop-of-length-le s h)
+  pub not-all-passed : length s ≤ i → (others ≡ 0 → ⊥) → false ≡ all p s
+  not-all-passed h e = sym (ne-eqb others 0 e) ∙ all-looked h
+
+  pub passed : length s ≤ i → eqb others 0 ≡ all p s
+  passed h = all-looked h
+
+-- blanks only
+module _ (s : List ℕ) (marks i : ℕ) (so : (eqb marks 0 && blank (drop i s)) ≡ blank s) where
+  pub mark-found : (k : ℕ) → k ≡ 1 → i < length s → (getD s i 0 ≡ 32 → ⊥) → (eqb k 0 && blank (drop (i + 1) s)) ≡ blank s
+  unfolding blank isBlank
+  mark-found k e h q = other-found isBlank s marks i so k e h (ne-eqb (getD s i 0) 32 q)
+
+  pub no-mark : (k : ℕ) → k ≡ marks → i < length s → getD s i 0 ≡ 32 → (eqb k 0 && blank (drop (i + 1) s)) ≡ blank s
+  unfolding blank isBlank
+  no-mark k e h q = none-found isBlank s marks i so k e h (eq-eqb (getD s i 0) 32 q)
+
+  pub blank-passed : length s ≤ i → eqb marks 0 ≡ blank s
+  unfolding blank isBlank
+  blank-passed h = passed isBlank s marks i so h
 
 -- ---- one of a group's
 

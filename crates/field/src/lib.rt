@@ -17,14 +17,15 @@ ghost use Rattle.rules.specs.Line.{isPrintable, isKind, isMarket, isNetwork, is
 pub fn is_blank_part(part: &[u8]) -> bool
     ensures { λ r. ⌜ r ≡ blank (now (part .entry)) ⌝ }
 {
+    let mut marks: u8 = 0;
     let mut i = 0;
     while i < part.len() {
         if part[i] != b' ' {
-            return false;
+            marks = 1;
         }
         i += 1;
     }
-    true
+    marks == 0
 }
 
 fn is_printable(c: u8) -> bool
@@ -40,14 +41,15 @@ fn is_printable(c: u8) -> bool
 pub fn is_printable_text(text: &[u8]) -> bool
     ensures { λ r. ⌜ r ≡ all isPrintable (now (text .entry)) ⌝ }
 {
+    let mut others: u8 = 0;
     let mut i = 0;
     while i < text.len() {
         if !is_printable(text[i]) {
-            return false;
+            others = 1;
         }
         i += 1;
     }
-    true
+    others == 0
 }
 
 fn is_letter(c: u8) -> bool

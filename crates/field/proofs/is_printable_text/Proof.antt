@@ -1,19 +1,22 @@
--- The loop's invariant: what stands before i passes. Assumes nothing.
+-- The loop's invariant: none found so far, and those from i on pass, is that all pass. Assumes nothing.
 use borrow.Author.Needs.{needs}
-use Prim.Native.Nat.{ℕ, suc, _+_, _-_, _*_, _^_, _≤_, _<_}
-use mathlib.Core.Path.{_≡_, refl, sym, ap, _∙_}
+use Prim.Native.Nat.{ℕ, suc, _+_, _-_, _≤_, _<_}
+use mathlib.Core.Path.{_≡_, refl}
+use mathlib.Core.Logic.{⊎-elim}
+use mathlib.Core.Bool.{_&&_}
+use lib.Dec.{eqb}
 use lib.ListN.{length, drop}
 use Rattle.text.specs.Pick.{all}
 use Rattle.rules.specs.Line.{isPrintable}
-use Rattle.field.proofs.Texts.{all-no, all-more, all-end}
+use Rattle.field.proofs.Texts.{told-found, told-none, passed}
 use Rattle.field.proofs.is_printable_text.Statement.{statement}
 use Rattle.field.proofs.is_printable_text.Tie as tie
 
 abbrev Inv-loop : tie.InvT-loop
-Inv-loop text i₀ i = (i ≤ length text) × (all isPrintable (drop i text) ≡ all isPrintable text)
+Inv-loop text others₀ i₀ others i = (i ≤ length text) × ((eqb others 0 && all isPrintable (drop i text)) ≡ all isPrintable text)
 
 abbrev μ-loop : tie.MeasureT-loop
-μ-loop text i₀ i = length text - i
+μ-loop text others₀ i₀ others i = length text - i
 
 loop-holds : tie.Need-loop-holds Inv-loop μ-loop
 loop-holds c = (search needs, refl)
@@ -24,9 +27,6 @@ shared-slice-read-is-printable c = search needs
 is-printable-requires : tie.Need-is-printable-requires Inv-loop μ-loop
 is-printable-requires c κs = search needs
 
-returns : tie.Need-returns Inv-loop μ-loop
-returns c = search all-no
-
 add-i : tie.Need-add-i Inv-loop μ-loop
 add-i c = search needs
 
@@ -34,10 +34,10 @@ loop-less : tie.Need-loop-less Inv-loop μ-loop
 loop-less c = search needs
 
 loop-again : tie.Need-loop-again Inv-loop μ-loop
-loop-again c = (search needs, search all-more)
+loop-again c = (search needs, ⊎-elim (λ w. search told-found) (λ w. search told-none) (c .if1 .came))
 
-returns-2 : tie.Need-returns-2 Inv-loop μ-loop
-returns-2 c = search all-end
+returns : tie.Need-returns Inv-loop μ-loop
+returns c = search passed
 
 pub is-printable-text-spec : {M : Type 1} → statement M
 is-printable-text-spec =
@@ -48,8 +48,7 @@ is-printable-text-spec =
     loop-holds
     shared-slice-read-is-printable
     is-printable-requires
-    returns
     add-i
     loop-less
     loop-again
-    returns-2)
+    returns)
