@@ -1,18 +1,20 @@
 -- The text of a refusal: its writers' steps, and its length. Assumes nothing.
 use Prim.Native.Nat.{ℕ, zero, suc, _+_, _-_, _^_, _≤_, _<_}
-use native.Mathlib.Numerals.{add-one}
 use native.Mathlib.Omega.{arith}
 use mathlib.Core.Path.{_≡_, refl, sym, ap, _∙_}
 use mathlib.Core.List.{List, [], _∷_, _++_}
-use lib.ListN.{length, drop, set, replicate, length-append, length-replicate}
-use lib.Seq.{set-at, drop-cons}
+use lib.ListN.{length, take, drop, set, replicate, length-append, length-replicate, length-take, length-drop}
 use Rattle.text.specs.Decimal.{decimal}
 use Rattle.text.specs.Put.{put, Written}
 use Rattle.text.proofs.Decimal.{length-decimal}
+use Rattle.text.proofs.Writing.{written-nothing}
 use Rattle.rules.specs.Refusal.{numberOf}
 use Rattle.rules.specs.declared.Refusal.{Refusal}
 use Rattle.rules.specs.declared.Refusal.the-variants.{Shape, Kind, NoDate, Form, Value, NotEntered, InUse, Name, SameName, Conditions, Unmatched, DateOrder, Room, NoPrint}
+use Rattle.engine.specs.declared.Outcome.{Outcome}
+use Rattle.engine.specs.declared.Outcome.the-variants.{Accepted, Refused}
 use Rattle.lines.specs.Refusals.{right, refusalLine}
+use Rattle.lines.specs.Feed.{printed, told}
 
 -- a turn's store: one blank more
 pub blank-on : (l : List ℕ) (i : ℕ) → i < length l → set (replicate i 32 ++ drop i l) i 32 ≡ replicate (suc i) 32 ++ drop (suc i) l
@@ -64,3 +66,38 @@ number-small NoPrint = omega arith
 pub length-refusal : (number : ℕ) (r : Refusal) → number ≤ 9999999999 → length (refusalLine number (numberOf r)) ≡ 14
 unfolding refusalLine
 length-refusal number r h = simp length-append (omega (arith, length-right 9 number (omega arith), length-right 2 (numberOf r) (number-small r)))
+
+-- ---- an outcome: what was printed, and what is told of it
+
+module _ (o : Outcome) where
+  pub printed-some : (n : ℕ) → o ≡ Accepted n → n ≡ printed o
+  unfolding printed
+  printed-some n e = rw e
+
+  pub printed-none : (r : Refusal) → o ≡ Refused r → 0 ≡ printed o
+  unfolding printed
+  printed-none r e = rw e
+
+  pub told-none : (number n : ℕ) (b : List ℕ) → o ≡ Accepted n → Written (told number o) b b 0
+  unfolding told
+  told-none number n b e = rw e (written-nothing b)
+
+module _ (o : Outcome) (r : Refusal) (k number : ℕ) (refused : o ≡ Refused r) (is : k ≡ numberOf r) where
+  told-is : told number o ≡ refusalLine number k
+  unfolding told
+  told-is = rw (refused, is)
+
+  pub told-line : (b a : List ℕ) (n : ℕ) → Written (refusalLine number k) b a n → Written (told number o) b a n
+  told-line b a n w = rw told-is w
+
+  pub told-room : (m : ℕ) → length (told number o) ≤ m → length (refusalLine number k) ≤ m
+  told-room m h = rw told-is at h
+
+told-short : (number : ℕ) (o : Outcome) → number ≤ 9999999999 → length (told number o) ≤ 14
+unfolding told
+told-short number (Accepted n) h = omega arith
+told-short number (Refused r) h = omega (arith, length-refusal number r h)
+
+-- there is room for it
+pub told-fits : (number k : ℕ) (o : Outcome) (xs : List ℕ) → 14 ≤ length xs - k → number ≤ 9999999999 → length (told number o) ≤ length (take (length xs - k) (drop k xs))
+told-fits number k o xs h l = simp (length-take, length-drop) (omega (arith, told-short number o l))

@@ -19,18 +19,18 @@ pub record Cut : Type 0 where
   pub ended : List (List ℕ)
   pub rest : List ℕ
 
--- a line feed in front: an empty piece
-abbrev pub fed : Cut → Cut
-fed c = record { ended = [] ∷ c .ended; rest = c .rest }
+-- a piece with its line feed in front
+abbrev pub after : List ℕ → Cut → Cut
+after l c = record { ended = l ∷ c .ended; rest = c .rest }
 
--- any other byte in front: it belongs to the first piece
+-- a byte that is no line feed in front: it belongs to the first piece
 abbrev pub led : ℕ → List (List ℕ) → List ℕ → Cut
 led b [] r = record { ended = []; rest = b ∷ r }
 led b (l ∷ ls) r = record { ended = (b ∷ l) ∷ ls; rest = r }
 
 unfoldable pub cut : List ℕ → Cut
 cut [] = record { ended = []; rest = [] }
-cut (c ∷ s) = pick (eqb c 10) (fed (cut s)) (led c (cut s .ended) (cut s .rest))
+cut (c ∷ s) = pick (eqb c 10) (after [] (cut s)) (led c (cut s .ended) (cut s .rest))
 
 -- what follows the last line feed is a line if it has at least one byte
 abbrev pub lastLine : List ℕ → List (List ℕ)

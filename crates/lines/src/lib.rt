@@ -1,13 +1,28 @@
 // Lines: a block of input is split at its line feeds, each line is handed to the engine as a part of the block, prints are
 // gathered in one lent block and refusals in another (document 01, "Shown facts and the whole day").
+use engine::Answer;
+use engine::Outcome;
 use rules::Refusal;
+use rules::Settings;
 ghost use mathlib.Core.Path.{_≡_};
+ghost use mathlib.Core.List.{[], _∷_};
 ghost use Prim.Native.Nat.{_-_, _≤_};
-ghost use lib.ListN.{length, replicate};
+ghost use lib.ListN.{length, replicate, take, drop};
 ghost use Rattle.text.specs.Put.{Written};
 ghost use Rattle.rules.specs.Refusal.{numberOf};
 ghost use Rattle.lines.specs.Lines.{lineEnd};
 ghost use Rattle.lines.specs.Refusals.{right, refusalLine};
+ghost use Rattle.lines.specs.Feed.{started, printed, told, roomLeft, linesTaken, blockTaken, Stands, Steps};
+
+// Where the reading of a block stands: the settings, the number of the next line, the bytes of the block that are read,
+// the bytes on the lent tape and in the lent refusals.
+pub struct Fed {
+    pub settings: Settings,
+    pub number: u64,
+    pub at: usize,
+    pub tape: usize,
+    pub refusals: usize,
+}
 
 // The place of the first line feed from `from` on, or of the block's end.
 pub fn line_end(block: &[u8], from: usize) -> usize
@@ -87,4 +102,74 @@ fn write_refusal(rest: &mut [u8], number: u64, refusal: u64) -> usize
     let a = write_right(rest, 10, number);
     let b = a + write_right(&mut rest[a..], 3, refusal);
     b + text::write_bytes(&mut rest[b..], b"\n")
+}
+
+fn write_told(rest: &mut [u8], number: u64, o: Outcome) -> usize
+    requires { ⌜ length (told number o) ≤ length (now rest) ⌝ }
+    ensures { λ r. ⌜ Written (told number o) (now (rest .entry)) (now (rest .exit)) r ⌝ }
+{
+    match o {
+        Outcome::Accepted(_) => 0,
+        Outcome::Refused(r) => {
+            let k = number_of(r);
+            write_refusal(rest, number, k)
+        }
+    }
+}
+
+// ---- one line
+
+fn printed_length(o: Outcome) -> usize
+    ensures { λ r. ⌜ r ≡ printed o ⌝ }
+{
+    match o {
+        Outcome::Accepted(n) => n,
+        Outcome::Refused(_) => 0,
+    }
+}
+
+// Room for a print and a refusal, and a line number that is not past the last.
+fn room_left(f: Fed, tape: usize, refusals: usize) -> bool
+    requires { ⌜ (f .tape ≤ tape) × (f .refusals ≤ refusals) ⌝ }
+    ensures { λ r. ⌜ r ≡ roomLeft tape refusals (f .tape) (f .refusals) (f .number) ⌝ }
+{
+    if tape - f.tape < 200 {
+        return false;
+    }
+    if refusals - f.refusals < 14 {
+        return false;
+    }
+    f.number <= 9999999999
+}
+
+// The line from where the reading stands up to `end`.
+fn feed_line(
+    f: Fed,
+    table: &mut [u64; 5632],
+    names: &mut [u8; 9728],
+    block: &[u8],
+    end: usize,
+    tape: &mut [u8],
+    refusals: &mut [u8],
+) -> Fed
+    requires { ⌜ (f .at ≤ end) × (end ≤ length (now block)) × (f .tape ≤ length (now tape)) × (14 ≤ length (now refusals) - f .refusals) × (f .number ≤ 9999999999) ⌝ }
+    ensures { λ r. ⌜ Steps (take (end - f .at) (drop (f .at) (now (block .entry)))) (now (table .entry)) (now (names .entry)) (now (tape .entry)) (now (refusals .entry)) f (now (table .exit)) (now (names .exit)) (now (tape .exit)) (now (refusals .exit)) r ⌝ }
+{
+    let next = end + 1;
+    let at = f.at;
+    let n = f.tape;
+    let k = f.refusals;
+    let st = f.settings;
+    let a = engine::take_line(st, table, names, &block[at..end], &mut tape[n..]);
+    let settings = a.settings;
+    let outcome = a.outcome;
+    let on_tape = n + printed_length(outcome);
+    let in_refusals = k + write_told(&mut refusals[k..], f.number, outcome);
+    Fed {
+        settings: settings,
+        number: f.number + 1,
+        at: next,
+        tape: on_tape,
+        refusals: in_refusals,
+    }
 }

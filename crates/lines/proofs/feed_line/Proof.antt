@@ -1,0 +1,86 @@
+use Rattle.lines.proofs.Told.{told-fits}
+use Rattle.lines.proofs.Steps.{tape-adds, told-adds, line-fed}
+use borrow.Author.Needs.{needs}
+use Rattle.lines.proofs.feed_line.Statement.{statement}
+use Rattle.lines.proofs.feed_line.Tie as tie
+
+add-next : tie.Need-add-next
+add-next c = search needs
+
+sub-take-line : tie.Need-sub-take-line
+sub-take-line c = search needs
+
+part-take-line-start : tie.Need-part-take-line-start
+part-take-line-start c = search needs
+
+part-take-line-end : tie.Need-part-take-line-end
+part-take-line-end c = search needs
+
+sub-take-line-2 : tie.Need-sub-take-line-2
+sub-take-line-2 c = search needs
+
+part-take-line-start-2 : tie.Need-part-take-line-start-2
+part-take-line-start-2 c = search needs
+
+part-take-line-end-2 : tie.Need-part-take-line-end-2
+part-take-line-end-2 c = search needs
+
+take-line-requires : tie.Need-take-line-requires
+take-line-requires c κs = search needs
+
+printed-length-requires : tie.Need-printed-length-requires
+printed-length-requires c κs = search needs
+
+add-on-tape : tie.Need-add-on-tape
+add-on-tape c = search tape-adds
+
+sub-write-told : tie.Need-sub-write-told
+sub-write-told c = search needs
+
+part-write-told-start : tie.Need-part-write-told-start
+part-write-told-start c = search needs
+
+part-write-told-end : tie.Need-part-write-told-end
+part-write-told-end c = search needs
+
+write-told-requires : tie.Need-write-told-requires
+write-told-requires c κs = search told-fits
+
+add-in-refusals : tie.Need-add-in-refusals
+add-in-refusals c = let g = c .before .before .before .before .before .before .before .before .before .before .before .before .before .before .before .before .before .good .1 .1 .1 .1 .1 .1 in search (told-adds, g)
+
+add-t31 : tie.Need-add-t31
+add-t31 c = search needs
+
+same-length : tie.Need-same-length
+same-length c = search needs
+
+same-length-2 : tie.Need-same-length-2
+same-length-2 c = search needs
+
+returns : tie.Need-returns
+returns c = search line-fed
+
+pub feed-line-spec : {M : Type 1} → statement M
+feed-line-spec =
+    tie.close
+    (tie.spec
+    add-next
+    sub-take-line
+    part-take-line-start
+    part-take-line-end
+    sub-take-line-2
+    part-take-line-start-2
+    part-take-line-end-2
+    take-line-requires
+    printed-length-requires
+    add-on-tape
+    sub-write-told
+    part-write-told-start
+    part-write-told-end
+    write-told-requires
+    add-in-refusals
+    add-t31
+    same-length
+    same-length-2
+    returns)

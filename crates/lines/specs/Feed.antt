@@ -1,0 +1,92 @@
+-- What a block of input does (document 01, "Shown facts and the whole day"): its lines go to the engine one after the other, prints and refusals are gathered. Assumes nothing.
+use Prim.Native.Nat.{ℕ, _+_, _-_}
+use mathlib.Core.Path.{_≡_}
+use mathlib.Core.Bool.{Bool, true, false, _&&_}
+use mathlib.Core.List.{List, [], _∷_, _++_}
+use lib.Dec.{leb}
+use lib.ListN.{length}
+use Rattle.text.specs.Put.{Written}
+use Rattle.rules.specs.Refusal.{numberOf}
+use Rattle.rules.specs.declared.Settings.{Settings}
+use Rattle.planner.specs.declared.Plan.{Plan}
+use Rattle.engine.specs.declared.Outcome.{Outcome}
+use Rattle.engine.specs.declared.Outcome.the-variants.{Accepted, Refused}
+use Rattle.engine.specs.Taken.{asked, printOf, settingsAfter, tableAfter, namesAfter, outcomeOf}
+use Rattle.lines.specs.Lines.{cut}
+use Rattle.lines.specs.Refusals.{refusalLine}
+use Rattle.lines.specs.declared.Fed.{Fed}
+
+-- where the reading of a block stands: the engine's state, the number of the next line, the bytes that are read, the prints and the refusals so far, each joined in order
+pub record Progress : Type 0 where
+  pub settings : Settings
+  pub table : List ℕ
+  pub names : List ℕ
+  pub number : ℕ
+  pub at : ℕ
+  pub tape : List ℕ
+  pub refusals : List ℕ
+
+abbrev pub started : Settings → List ℕ → List ℕ → ℕ → Progress
+started st table names number = record { settings = st; table = table; names = names; number = number; at = 0; tape = []; refusals = [] }
+
+-- ---- one line
+
+-- how many bytes an outcome put on the tape
+unfoldable pub printed : Outcome → ℕ
+printed (Accepted n) = n
+printed (Refused r) = 0
+
+-- what is told of it
+unfoldable pub told : ℕ → Outcome → List ℕ
+told number (Accepted n) = []
+told number (Refused r) = refusalLine number (numberOf r)
+
+-- a line's plan carried out; the line and its line feed are read
+unfoldable pub carried : List ℕ → Progress → Plan → Progress
+carried line f p =
+    let print = printOf (f .settings) (f .names) p in
+    record {
+      settings = settingsAfter (f .settings) p;
+      table = tableAfter (f .table) p;
+      names = namesAfter (f .names) line p;
+      number = f .number + 1;
+      at = f .at + length line + 1;
+      tape = f .tape ++ print;
+      refusals = f .refusals ++ told (f .number) (outcomeOf p (length print));
+    }
+
+-- the engine takes a line, lent what is left of a tape of `room` bytes
+unfoldable pub lineTaken : ℕ → List ℕ → Progress → Progress
+lineTaken room line f = carried line f (asked (f .settings) (f .table) (f .names) line (room - length (f .tape)))
+
+-- ---- many
+
+-- 200 bytes are left for a print, which is shorter, and 14 for a refusal, and reading has not ended: `n` bytes are on a tape of `tape`, `k` in refusals of `refusals`
+unfoldable pub roomLeft : ℕ → ℕ → ℕ → ℕ → ℕ → Bool
+roomLeft tape refusals n k number = leb 200 (tape - n) && (leb 14 (refusals - k) && leb number 9999999999)
+
+-- lines are taken in order, as long as there is room
+unfoldable pub linesTaken : ℕ → ℕ → List (List ℕ) → Progress → Progress
+linesTaken tape refusals [] f = f
+linesTaken tape refusals (l ∷ ls) f =
+    elim (roomLeft tape refusals (length (f .tape)) (length (f .refusals)) (f .number)) [ true ↦ linesTaken tape refusals ls (lineTaken tape l f) | false ↦ f ]
+
+-- a block: each line that a line feed ends
+unfoldable pub blockTaken : ℕ → ℕ → List ℕ → Progress → Progress
+blockTaken tape refusals block f = linesTaken tape refusals (cut block .ended) f
+
+-- ---- the promise of `feed`, `feed_last` and each step: the answer, both tables, the lent tape and the lent refusals at exit, which held `tape₀` and `refusals₀` at the start
+pub record Stands (tape₀ refusals₀ : List ℕ) (p : Progress) (table names tape refusals : List ℕ) (f : Fed) : Type 0 where
+  pub settings-is : f .settings ≡ p .settings
+  pub number-is : f .number ≡ p .number
+  pub at-is : f .at ≡ p .at
+  pub table-is : table ≡ p .table
+  pub names-is : names ≡ p .names
+  pub tape-is : Written (p .tape) tape₀ tape (f .tape)
+  pub refusals-is : Written (p .refusals) refusals₀ refusals (f .refusals)
+
+-- a step from wherever the reading stands
+abbrev pub Steps : List ℕ → List ℕ → List ℕ → List ℕ → List ℕ → Fed → List ℕ → List ℕ → List ℕ → List ℕ → Fed → Type 0
+Steps line table names tape refusals f table′ names′ tape′ refusals′ r =
+    (tape₀ refusals₀ : List ℕ) (p : Progress) → Stands tape₀ refusals₀ p table names tape refusals f
+    → Stands tape₀ refusals₀ (lineTaken (length tape₀) line p) table′ names′ tape′ refusals′ r
