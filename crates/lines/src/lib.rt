@@ -173,3 +173,63 @@ fn feed_line(
         refusals: in_refusals,
     }
 }
+
+// ---- a block
+
+// Each line of the block that a line feed ends, as long as 200 bytes are left of the lent tape, 14 of the lent refusals,
+// and the line's number is at most 9,999,999,999.
+pub fn feed(
+    settings: Settings,
+    number: u64,
+    table: &mut [u64; 5632],
+    names: &mut [u8; 9728],
+    block: &[u8],
+    tape: &mut [u8],
+    refusals: &mut [u8],
+) -> Fed
+    ensures { λ r. ⌜ Stands (now (tape .entry)) (now (refusals .entry)) (blockTaken (length (now (tape .entry))) (length (now (refusals .entry))) (now (block .entry)) (started settings (now (table .entry)) (now (names .entry)) number)) (now (table .exit)) (now (names .exit)) (now (tape .exit)) (now (refusals .exit)) r ⌝ }
+{
+    let mut f = Fed {
+        settings: settings,
+        number: number,
+        at: 0,
+        tape: 0,
+        refusals: 0,
+    };
+    let mut end = line_end(block, 0);
+    while end < block.len() {
+        if !room_left(f, tape.len(), refusals.len()) {
+            return f;
+        }
+        f = feed_line(f, table, names, block, end, tape, refusals);
+        let at = f.at;
+        end = line_end(block, at);
+    }
+    f
+}
+
+// One line that no line feed ends.
+pub fn feed_last(
+    settings: Settings,
+    number: u64,
+    table: &mut [u64; 5632],
+    names: &mut [u8; 9728],
+    line: &[u8],
+    tape: &mut [u8],
+    refusals: &mut [u8],
+) -> Fed
+    ensures { λ r. ⌜ Stands (now (tape .entry)) (now (refusals .entry)) (linesTaken (length (now (tape .entry))) (length (now (refusals .entry))) (now (line .entry) ∷ []) (started settings (now (table .entry)) (now (names .entry)) number)) (now (table .exit)) (now (names .exit)) (now (tape .exit)) (now (refusals .exit)) r ⌝ }
+{
+    let f = Fed {
+        settings: settings,
+        number: number,
+        at: 0,
+        tape: 0,
+        refusals: 0,
+    };
+    if !room_left(f, tape.len(), refusals.len()) {
+        return f;
+    }
+    let end = line.len();
+    feed_line(f, table, names, line, end, tape, refusals)
+}
