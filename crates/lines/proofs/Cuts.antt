@@ -13,11 +13,11 @@ use Rattle.text.specs.Pick.{pick}
 use Rattle.lines.specs.Lines.{lineLength, lineEnd, Cut, after, led, cut, lastLine, linesOf}
 use Rattle.lines.proofs.Scan.{length-feed, length-other}
 
-cut-feed : (c : ℕ) (s : List ℕ) → c ≡ 10 → cut (c ∷ s) ≡ after [] (cut s)
+pub cut-feed : (c : ℕ) (s : List ℕ) → c ≡ 10 → cut (c ∷ s) ≡ after [] (cut s)
 unfolding cut pick
 cut-feed c s h = rw (eq-eqb c 10 h)
 
-cut-other : (c : ℕ) (s : List ℕ) → (c ≡ 10 → ⊥) → cut (c ∷ s) ≡ led c (cut s .ended) (cut s .rest)
+pub cut-other : (c : ℕ) (s : List ℕ) → (c ≡ 10 → ⊥) → cut (c ∷ s) ≡ led c (cut s .ended) (cut s .rest)
 unfolding cut pick
 cut-other c s h = rw (ne-eqb c 10 h)
 

@@ -3,3 +3,4 @@ pub mod Told
 pub mod Steps
 pub mod Cuts
 pub mod Blocks
+pub mod Whole

@@ -1,3 +1,4 @@
 pub mod Lines
 pub mod Refusals
 pub mod Feed
+pub mod Handed
