@@ -4,3 +4,4 @@ pub mod Steps
 pub mod Cuts
 pub mod Blocks
 pub mod Whole
+pub mod Long

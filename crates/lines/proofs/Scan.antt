@@ -1,15 +1,16 @@
--- The place of a line's end: a scan's steps. Assumes nothing.
-use Prim.Native.Nat.{ℕ, suc, _+_, _≤_, _<_}
-use native.Mathlib.Nat.{add-zero}
+-- A line's end, and a line's start moved to the front: the steps of the loops. Assumes nothing.
+use Prim.Native.Nat.{ℕ, suc, _+_, _-_, _≤_, _<_}
 use native.Mathlib.Numerals.{add-one}
 use native.Mathlib.Omega.{arith}
 use mathlib.Core.Path.{_≡_, refl, sym, ap, _∙_}
-use mathlib.Core.List.{List, [], _∷_}
+use mathlib.Core.List.{List, [], _∷_, _++_}
 use lib.Dec.{eqb}
-use lib.ListN.{length, drop, getD, drop-of-length-le}
-use lib.Seq.{drop-cons}
+use lib.ListN.{length, take, drop, getD, set, drop-of-length-le, length-take, length-drop}
+use lib.Seq.{drop-cons, take-all, getD-drop, getD-append-add}
 use borrow.Author.Tests.{eq-eqb, ne-eqb}
 use Rattle.text.specs.Pick.{pick}
+use Rattle.text.specs.Put.{put, Written}
+use Rattle.text.proofs.Writing.{store}
 use Rattle.lines.specs.Lines.{lineLength, lineEnd}
 
 pub length-feed : (c : ℕ) (s : List ℕ) → c ≡ 10 → lineLength (c ∷ s) ≡ 0
@@ -32,3 +33,21 @@ module _ (block : List ℕ) (i e : ℕ) where
   pub end-past : length block ≤ i → lineEnd block i ≡ e → i ≡ e
   unfolding lineEnd lineLength
   end-past l q = omega (arith, ap lineLength (drop-of-length-le block l))
+
+-- ---- moving to the front
+
+-- a turn: the next byte to be moved still stands where it stood
+pub move-on : (b : List ℕ) (from i : ℕ) → from + i < length b → set (take i (drop from b) ++ drop i b) i (getD (take i (drop from b) ++ drop i b) (from + i) 0) ≡ take (suc i) (drop from b) ++ drop (suc i) b
+move-on b from i h =
+    let l : length (take i (drop from b)) ≡ i = simp (length-take, length-drop) (omega arith) in
+    let e : getD (take i (drop from b) ++ drop i b) (from + i) 0 ≡ getD (drop from b) i 0 =
+    ap (λ (n : ℕ). getD (take i (drop from b) ++ drop i b) n 0) (let z : from + i ≡ length (take i (drop from b)) + from = omega arith in z)
+    ∙ (getD-append-add (take i (drop from b)) (drop i b) from 0 ∙ (getD-drop i b from 0 ∙ (ap (λ (n : ℕ). getD b n 0) (let z : i + from ≡ from + i = omega arith in z) ∙ sym (getD-drop from b i 0)))) in
+    rw e (store (drop from b) b i (omega (arith, length-drop from b)) (omega arith))
+
+-- all is moved
+pub moved : (b a : List ℕ) (from i j : ℕ) → a ≡ take i (drop from b) ++ drop i b → j ≡ from + i → length a ≡ length b → length a ≤ j → i ≤ length b - from → Written (drop from b) b a i
+unfolding put
+moved b a from i j h e q l m =
+    let n : i ≡ length (drop from b) = omega (arith, length-drop from b) in
+    record { tape = h ∙ rw (take-all i (drop from b) (omega arith), n); count-is = n; within = omega arith }

@@ -38,6 +38,20 @@ pub fn line_end(block: &[u8], from: usize) -> usize
     i
 }
 
+// What follows a place, moved to the block's front: the start of a line whose end is yet to be read.
+pub fn move_front(block: &mut [u8], from: usize) -> usize
+    ensures { λ r. ⌜ Written (drop from (now (block .entry))) (now (block .entry)) (now (block .exit)) r ⌝ }
+{
+    let mut i = 0;
+    let mut j = from;
+    while j < block.len() {
+        block[i] = block[j];
+        i += 1;
+        j += 1;
+    }
+    i
+}
+
 // ---- refusals
 
 // A refusal's number in document 01.
