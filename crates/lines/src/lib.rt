@@ -6,7 +6,7 @@ use rules::Refusal;
 use rules::Settings;
 ghost use mathlib.Core.Path.{_≡_};
 ghost use mathlib.Core.List.{[], _∷_};
-ghost use Prim.Native.Nat.{_-_, _≤_};
+ghost use Prim.Native.Nat.{_+_, _-_, _≤_};
 ghost use lib.ListN.{length, replicate, take, drop};
 ghost use Rattle.text.specs.Put.{Written};
 ghost use Rattle.rules.specs.Refusal.{numberOf};
@@ -24,11 +24,44 @@ pub struct Fed {
     pub refusals: usize,
 }
 
+// No line feed stands in the 32 bytes from `from` on: 1 where one may, so that the compiler looks at many bytes at once.
+fn feed_near(block: &[u8], from: usize) -> u8
+    requires { ⌜ from + 32 ≤ length (now block) ⌝ }
+    ensures { λ r. ⌜ (r ≡ 0 → lineEnd (now (block .entry)) (from + 32) ≡ lineEnd (now (block .entry)) from) ⌝ }
+{
+    let mut near: u8 = 0;
+    let mut i: usize = 0;
+    while i < 32 {
+        if block[from + i] == 10 {
+            near = 1;
+        }
+        i += 1;
+    }
+    near
+}
+
+// A place in the same line, near its end.
+fn line_near(block: &[u8], from: usize) -> usize
+    ensures { λ r. ⌜ lineEnd (now (block .entry)) r ≡ lineEnd (now (block .entry)) from ⌝ }
+{
+    let mut i = from;
+    while i < block.len() {
+        if block.len() - i < 32 {
+            return i;
+        }
+        if feed_near(block, i) != 0 {
+            return i;
+        }
+        i += 32;
+    }
+    i
+}
+
 // The place of the first line feed from `from` on, or of the block's end.
 pub fn line_end(block: &[u8], from: usize) -> usize
     ensures { λ r. ⌜ r ≡ lineEnd (now (block .entry)) from ⌝ }
 {
-    let mut i = from;
+    let mut i = line_near(block, from);
     while i < block.len() {
         if block[i] == 10 {
             return i;

@@ -14,8 +14,11 @@ Inv-loop block from i₀ i = lineEnd block i ≡ lineEnd block from
 abbrev μ-loop : tie.MeasureT-loop
 μ-loop block from i₀ i = length block - i
 
+line-near-requires : tie.Need-line-near-requires Inv-loop μ-loop
+line-near-requires c κs = search needs
+
 loop-holds : tie.Need-loop-holds Inv-loop μ-loop
-loop-holds c = refl
+loop-holds c = search needs
 
 shared-slice-read-if1 : tie.Need-shared-slice-read-if1 Inv-loop μ-loop
 shared-slice-read-if1 c = search needs
@@ -41,6 +44,7 @@ line-end-spec =
     (tie.spec
     Inv-loop
     μ-loop
+    line-near-requires
     loop-holds
     shared-slice-read-if1
     returns
