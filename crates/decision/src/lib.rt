@@ -31,7 +31,7 @@ fn six(s: Security, market: u64) -> bool
 }
 
 // At or over the delete level.
-fn at_level(st: Settings, volume: u64) -> bool
+pub fn at_level(st: Settings, volume: u64) -> bool
     ensures { λ r. ⌜ r ≡ atLevel st volume ⌝ }
 {
     st.level <= volume
@@ -79,7 +79,7 @@ fn new_at(s: Security, value: u64) -> bool
 }
 
 // A new high or low by a trade that qualifies for them.
-fn new_range(s: Security, x: Side) -> bool
+pub fn new_range(s: Security, x: Side) -> bool
     requires { ⌜ Sound (x .price) ⌝ }
     ensures { λ r. ⌜ r ≡ newRange s x ⌝ }
 {
@@ -161,7 +161,7 @@ fn other_tens(whole: u64, printed: u64) -> bool
     whole / 10 != printed / 100000000 / 10
 }
 
-fn ends_in_zero(whole: u64) -> bool
+pub fn ends_in_zero(whole: u64) -> bool
     ensures { λ r. ⌜ r ≡ endsInZero whole ⌝ }
 {
     whole % 10 == 0
@@ -276,7 +276,7 @@ pub fn prints_trade(st: Settings, s: Security, market: u64, x: Side) -> bool
     }
 }
 
-fn is_normal(m: Mode) -> bool
+pub fn is_normal(m: Mode) -> bool
     ensures { λ r. ⌜ r ≡ isNormal m ⌝ }
 {
     match m {
@@ -325,7 +325,7 @@ fn moved(qualifies: bool, new: bool, value: u64, held: u64) -> u64
     value
 }
 
-fn high_after(s: Security, x: Side) -> u64
+pub fn high_after(s: Security, x: Side) -> u64
     requires { ⌜ Sound (x .price) ⌝ }
     ensures { λ r. ⌜ r ≡ highAfter s x ⌝ }
 {
@@ -340,7 +340,7 @@ fn high_after(s: Security, x: Side) -> u64
     )
 }
 
-fn low_after(s: Security, x: Side) -> u64
+pub fn low_after(s: Security, x: Side) -> u64
     requires { ⌜ Sound (x .price) ⌝ }
     ensures { λ r. ⌜ r ≡ lowAfter s x ⌝ }
 {
@@ -355,7 +355,7 @@ fn low_after(s: Security, x: Side) -> u64
     )
 }
 
-fn last_after(s: Security, x: Side) -> u64
+pub fn last_after(s: Security, x: Side) -> u64
     requires { ⌜ Sound (x .price) ⌝ }
     ensures { λ r. ⌜ r ≡ lastAfter s x ⌝ }
 {

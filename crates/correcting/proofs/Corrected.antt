@@ -1,0 +1,79 @@
+-- Laws of the rules of "Corrections and cancels", in the form of the code's needs. Assumes nothing.
+use Prim.Native.Nat.{ℕ, _/_}
+use mathlib.Core.Path.{_≡_, refl}
+use mathlib.Core.Bool.{Bool, true, false, _&&_, _||_, not}
+use lib.Dec.{eqb, leb}
+use Rattle.rules.specs.Price.{wholePart, units}
+use Rattle.rules.specs.Conditions.{hasRule}
+use Rattle.rules.specs.Trade.{atLevel, tens, endsInZero, highAfter, lowAfter, lastAfter}
+use Rattle.rules.specs.Correction.{pricesDiffer, printsInDvd, unlikeLast, printsInBoth, printsCorrection, isMpv, wholeInFull, afterCorrection}
+use Rattle.rules.specs.declared.Mode.{Mode}
+use Rattle.rules.specs.declared.Mode.the-variants.{Normal, Dvd, Rpo, Mpv}
+use Rattle.rules.specs.declared.Side.{Side}
+use Rattle.rules.specs.declared.Settings.{Settings}
+use Rattle.rules.specs.declared.Security.{Security}
+
+-- ---- values and whole parts, as a callee answered them
+
+pub differ-by-value : (x y : Side) (a b : ℕ) → a ≡ units (x .price) → b ≡ units (y .price) → not (eqb a b) ≡ pricesDiffer x y
+unfolding pricesDiffer
+differ-by-value x y a b e f = rw (e, f)
+
+pub differ-by-tens : (x y : Side) (a b : ℕ) → a ≡ wholePart (x .price) → b ≡ wholePart (y .price) → not (eqb (a / 10) (b / 10)) ≡ not (eqb (tens (wholePart (x .price))) (tens (wholePart (y .price))))
+unfolding tens
+differ-by-tens x y a b e f = rw (e, f)
+
+pub unlike-value : (s : Security) (y : Side) (v : ℕ) (r : Bool) → v ≡ units (y .price) → r ≡ unlikeLast s v → r ≡ unlikeLast s (units (y .price))
+unlike-value s y v r e h = rw (← e) h
+
+pub full-whole : (x : Side) (w : ℕ) (r : Bool) → w ≡ wholePart (x .price) → r ≡ (endsInZero w || leb 1000 w) → r ≡ wholeInFull x
+unfolding wholeInFull
+full-whole x w r e h = rw (← e) h
+
+-- ---- by mode
+
+module _ (m : Mode) where
+  pub mpv-normal : m ≡ Normal → false ≡ isMpv m
+  unfolding isMpv
+  mpv-normal h = rw h
+
+  pub mpv-dvd : m ≡ Dvd → false ≡ isMpv m
+  unfolding isMpv
+  mpv-dvd h = rw h
+
+  pub mpv-rpo : m ≡ Rpo → false ≡ isMpv m
+  unfolding isMpv
+  mpv-rpo h = rw h
+
+  pub mpv-yes : m ≡ Mpv → true ≡ isMpv m
+  unfolding isMpv
+  mpv-yes h = rw h
+
+module _ (st : Settings) (s : Security) (x y : Side) where
+  pub prints-normal : st .mode ≡ Normal → true ≡ printsCorrection st s x y
+  unfolding printsCorrection
+  prints-normal h = rw h
+
+  pub prints-dvd : (r : Bool) → st .mode ≡ Dvd → r ≡ printsInDvd st s x y → r ≡ printsCorrection st s x y
+  unfolding printsCorrection printsInDvd atLevel
+  prints-dvd r h e = rw h e
+
+  pub prints-rpo : (r : Bool) → st .mode ≡ Rpo → r ≡ (hasRule (y .letters) || printsInBoth st s x y) → r ≡ printsCorrection st s x y
+  unfolding printsCorrection printsInBoth atLevel
+  prints-rpo r h e = rw h e
+
+  pub prints-mpv : (r : Bool) → st .mode ≡ Mpv → r ≡ ((hasRule (x .letters) || hasRule (y .letters)) || printsInBoth st s x y) → r ≡ printsCorrection st s x y
+  unfolding printsCorrection printsInBoth atLevel
+  prints-mpv r h e = rw h e
+
+pub ruleset modes = (mpv-normal, mpv-dvd, mpv-rpo, mpv-yes, prints-normal, prints-dvd, prints-rpo, prints-mpv)
+
+-- ---- after a correction
+
+pub corrected : (s : Security) (y : Side) (high low last : ℕ)
+    → high ≡ highAfter s y
+    → low ≡ lowAfter s y
+    → last ≡ lastAfter s y
+    → (record { unit = s .unit; network = s .network; market = s .market; first = s .first; printed = s .printed; high = high; low = low; last = last; trades = s .trades; qualified = s .qualified; primaries = s .primaries }) ≡ afterCorrection s y
+unfolding afterCorrection
+corrected s y high low last e f g = rw (e, f, g)
