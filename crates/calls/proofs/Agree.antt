@@ -14,14 +14,16 @@ use Rattle.rules.specs.Names.{nameText}
 use Rattle.rules.specs.Conditions.{onNetwork}
 use Rattle.rules.specs.Side.{sideText}
 use Rattle.rules.specs.Trade.{printsTrade, tradeFull, tradeShows, afterTrade}
+use Rattle.rules.specs.Correction.{correctionText, cancelText, cancelOpening, errorOpening, printsCorrection, correctionFull, correctionShows, cancelFull, cancelShows, afterCorrection}
 use Rattle.rules.specs.Columns.{column}
 use Rattle.rules.specs.Line.{isShaped, isKind, isFormed, isRanged, lineOf, ofKind, nameColumns}
 use Rattle.rules.specs.Refusal.{refuse}
 use Rattle.rules.specs.Day as rules
-use Rattle.rules.specs.Day.{Day, Call, vacant, noName, opened, cleared, securityAt, nameAt, isEntered, showsTemporary, takenName, entered, tradePrint, stateRefusal, dateRefusal, listingRefusal, tradeRefusal, undated, refusalOf, afterLine, tapeOf, after}
+use Rattle.rules.specs.Day.{Day, Call, vacant, noName, opened, cleared, securityAt, nameAt, isEntered, showsTemporary, takenName, entered, tradePrint, cancelPrint, correctionPrint, stateRefusal, dateRefusal, listingRefusal, tradeRefusal, correctionRefusal, undated, refusalOf, afterLine, tapeOf, after}
 use Rattle.rules.specs.declared.Mode.{Mode}
 use Rattle.rules.specs.declared.Listing.{Listing}
 use Rattle.rules.specs.declared.Trade.{Trade}
+use Rattle.rules.specs.declared.Correction.{Correction}
 use Rattle.rules.specs.declared.Line.{Line}
 use Rattle.rules.specs.declared.Line.the-variants.{Dated, Listed, Moded, Leveled, Stepped, Traded, Cancelled, Erred, Corrected}
 use Rattle.rules.specs.declared.Parsed.{Parsed}
@@ -33,12 +35,12 @@ use Rattle.table.specs.Rows.{row, withRow, nameOf, withName, rowsFrom, namesFro
 use Rattle.table.proofs.Held.{held-security, held-name, security-set, name-set, held-cleared}
 use Rattle.planner.specs.declared.TradePlan.{TradePlan}
 use Rattle.planner.specs.declared.Plan.{Plan}
-use Rattle.planner.specs.declared.Plan.the-variants.{Stop, Open, Enter, Change, Level, Step, Print}
-use Rattle.planner.specs.Plan.{isOpen, datePlan, listingPlan, printPlan, tradePlan, linePlan, readPlan, planOf, SoundListing, SoundTrade, SoundLine}
+use Rattle.planner.specs.declared.Plan.the-variants.{Stop, Open, Enter, Change, Level, Step, Print, Cancel, Correct}
+use Rattle.planner.specs.Plan.{datePlan, listingPlan, unlessStopped, printPlan, tradePlan, cancelOf, cancelPlan, correctionOf, correctionPlan, linePlan, readPlan, planOf, SoundListing, SoundTrade, SoundCorrection, SoundLine}
 use Rattle.planner.proofs.Ranged.{sound-line, shaped, name-length}
 use Rattle.engine.specs.declared.Outcome.{Outcome}
-use Rattle.engine.specs.Taken.{printedName, printText, textOf, fittedOf, asked, printOf, settingsAfter, tableAfter, namesAfter, outcomeOf}
-use Rattle.calls.specs.Held.{isDeferred, stopOf, dayAfter, outcomeBy, ByRules}
+use Rattle.engine.specs.Taken.{printedName, printText, cancelled, corrected, textOf, fittedOf, asked, printOf, settingsAfter, tableAfter, namesAfter, outcomeOf}
+use Rattle.calls.specs.Held.{stopOf, dayAfter, outcomeBy, ByRules}
 
 settled : (st : Settings) (table names : List ℕ) → (dayOf st table names) .settings ≡ st
 unfolding dayOf
@@ -49,6 +51,17 @@ by-parts : (day : Day) (t : Trade) (st : Settings) (s : Security) (n : List ℕ)
     → opt (printsTrade st s (t .market) (t .side)) (sideText (nameText (showsTemporary s) n) (s .network) (s .unit) (tradeFull st s (t .market) (t .side)) (tradeShows st s (t .market) (t .side)) (t .side)) ≡ tradePrint day t
 unfolding tradePrint
 by-parts day t st s n e f g = rw (← e, ← f, ← g)
+
+-- and of a cancel, an error, a correction
+cancel-parts : (opening : List ℕ) (day : Day) (t : Trade) (st : Settings) (s : Security) (n : List ℕ) → day .settings ≡ st → securityAt day (t .security) ≡ s → nameAt day (t .security) ≡ n
+    → cancelText opening (nameText false n) (s .network) (s .unit) (cancelFull st s (t .side)) (cancelShows st (t .side)) (t .side) ≡ cancelPrint opening day t
+unfolding cancelPrint
+cancel-parts opening day t st s n e f g = rw (← e, ← f, ← g)
+
+correction-parts : (day : Day) (c : Correction) (st : Settings) (s : Security) (n : List ℕ) → day .settings ≡ st → securityAt day (c .security) ≡ s → nameAt day (c .security) ≡ n
+    → opt (printsCorrection st s (c .original) (c .correcting)) (correctionText (nameText false n) (s .network) (s .unit) (correctionFull st s (c .original) (c .correcting)) (correctionShows st (c .original) (c .correcting)) (c .original) (c .correcting)) ≡ correctionPrint day c
+unfolding correctionPrint
+correction-parts day c st s n e f g = rw (← e, ← f, ← g)
 
 -- ---- refusal, print and day of a plan, held to the rules'
 
@@ -144,60 +157,70 @@ module _ (st : Settings) (table names line : List ℕ) (room : ℕ) where
       unfolding afterLine dayOf dayAfter settingsAfter tableAfter namesAfter printPlan
       held-trade = rw (security-set st table names (t .security) (h .low) (h .high) (afterTrade st s (t .market) (t .side)) rows, stands)
 
-      same-trade : Same (Traded t)
-      unfolding stateRefusal tradeRefusal refuse linePlan tradePlan rules.printOf stopOf
-      same-trade =
+      -- the refusals of T, X and E
+      unless-stopped : (text : List ℕ) (after : Day) (p : Plan) → Agrees text after (refuse (ltb room (length text)) Room none) p → Agrees text after (tradeRefusal (securityAt day (t .security)) t (refuse (ltb room (length text)) Room none)) (unlessStopped s t p)
+      unfolding tradeRefusal refuse unlessStopped
+      unless-stopped text after p a =
           asks _ _ _ _ _ _ _ _ (ap (λ (x : Security). not (isEntered x)) stands) (λ e. stops _ _ NotEntered) (λ e.
           asks _ _ _ _ _ _ _ _ (ap (λ (x : Security). not (t .lawful && onNetwork (x .network) (t .side .letters))) stands) (λ f. stops _ _ Conditions) (λ f.
-          asks _ _ _ _ _ _ _ _ refl (λ g. stops _ _ Unmatched) (λ g. ends (tradePrint day t) _ (Print (printPlan st s t)) refl trade-print held-trade)))
+          asks _ _ _ _ _ _ _ _ refl (λ g. stops _ _ Unmatched) (λ g. a)))
 
--- ---- the six kinds
+      same-trade : Same (Traded t)
+      unfolding stateRefusal linePlan tradePlan rules.printOf stopOf
+      same-trade = unless-stopped (tradePrint day t) _ _ (ends (tradePrint day t) _ (Print (printPlan st s t)) refl trade-print held-trade)
 
-false-not-true : false ≡ true → ⊥
-false-not-true h = let z : _≡_ {A = ℕ} 0 1 = cc in omega arith
+      cancel-print : (error : Bool) → printOf st names (Cancel (cancelOf error st s t)) ≡ cancelPrint (pick error errorOpening cancelOpening) day t
+      unfolding printOf textOf printedName cancelled cancelOf
+      cancel-print error = cancel-parts (pick error errorOpening cancelOpening) day t st s (nameOf names (t .security - 1)) (settled st table names) stands (held-name st table names (t .security) (h .low) (h .high))
 
-Six : Line → Type 0
-Six (Dated n) = Unit {0}
-Six (Listed l) = Unit {0}
-Six (Moded m) = Unit {0}
-Six (Leveled n) = Unit {0}
-Six (Stepped n) = Unit {0}
-Six (Traded t) = Unit {0}
-Six (Cancelled t) = ⊥
-Six (Erred t) = ⊥
-Six (Corrected c) = ⊥
+      held-cancel : (error : Bool) → dayAfter st table names line (Cancel (cancelOf error st s t)) ≡ day
+      unfolding dayAfter settingsAfter tableAfter namesAfter
+      held-cancel error = refl
 
-either : (b : Bool) (p q : Parsed) → Six (p .line) → (b ≡ false → Six (q .line)) → Six ((pick b p q) .line)
-unfolding pick
-either true p q h k = h
-either false p q h k = k refl
+      same-cancel : Same (Cancelled t)
+      unfolding stateRefusal linePlan cancelPlan rules.printOf afterLine stopOf pick
+      same-cancel = unless-stopped (cancelPrint cancelOpening day t) _ _ (ends (cancelPrint cancelOpening day t) _ (Cancel (cancelOf false st s t)) refl (cancel-print false) (held-cancel false))
 
-six : (kind : ℕ) (line : List ℕ) → isOpen kind ≡ true → Six ((ofKind kind line) .line)
-unfolding ofKind isOpen among Six
-six kind line h =
-    either _ _ _ tt (λ a.
-    either _ _ _ tt (λ b.
-    either _ _ _ tt (λ c.
-    either _ _ _ tt (λ d.
-    either _ _ _ tt (λ e.
-    either _ _ _ tt (λ f. absurd (false-not-true (rw (a, b, c, d, e, f) at h))))))))
+      same-error : Same (Erred t)
+      unfolding stateRefusal linePlan cancelPlan rules.printOf afterLine stopOf pick
+      same-error = unless-stopped (cancelPrint errorOpening day t) _ _ (ends (cancelPrint errorOpening day t) _ (Cancel (cancelOf true st s t)) refl (cancel-print true) (held-cancel true))
 
-kinds : (c : ℕ) → isDeferred c ≡ false → isKind c ≡ isOpen c
-unfolding isDeferred isKind isOpen among
-kinds c h = rw h
+    module _ (c : Correction) (h : SoundCorrection c) where
+      abbrev x : Security
+      x = row table (c .security - 1)
 
-same-line : (st : Settings) (table names line : List ℕ) (room : ℕ) (l : Line) → length table ≡ 5632 → length names ≡ 9728 → length (nameColumns line) ≡ 19 → SoundLine l → Six l
+      stands-corrected : securityAt day (c .security) ≡ x
+      stands-corrected = held-security st table names (c .security) (h .low) (h .high)
+
+      correction-print : printOf st names (Correct (correctionOf st x c)) ≡ correctionPrint day c
+      unfolding printOf textOf printedName corrected correctionOf
+      correction-print = correction-parts day c st x (nameOf names (c .security - 1)) (settled st table names) stands-corrected (held-name st table names (c .security) (h .low) (h .high))
+
+      held-correction : dayAfter st table names line (Correct (correctionOf st x c)) ≡ afterLine day name (Corrected c)
+      unfolding afterLine dayOf dayAfter settingsAfter tableAfter namesAfter correctionOf
+      held-correction = rw (security-set st table names (c .security) (h .low) (h .high) (afterCorrection x (c .correcting)) rows, stands-corrected)
+
+      same-correction : Same (Corrected c)
+      unfolding stateRefusal correctionRefusal refuse linePlan correctionPlan rules.printOf stopOf
+      same-correction =
+          asks _ _ _ _ _ _ _ _ (ap (λ (s : Security). not (isEntered s)) stands-corrected) (λ e. stops _ _ NotEntered) (λ e.
+          asks _ _ _ _ _ _ _ _ (ap (λ (s : Security). not (c .lawful && (onNetwork (s .network) (c .original .letters) && onNetwork (s .network) (c .correcting .letters)))) stands-corrected) (λ f. stops _ _ Conditions) (λ f.
+          asks _ _ _ _ _ _ _ _ refl (λ g. stops _ _ Unmatched) (λ g. ends (correctionPrint day c) _ (Correct (correctionOf st x c)) refl correction-print held-correction)))
+
+-- ---- every kind
+
+same-line : (st : Settings) (table names line : List ℕ) (room : ℕ) (l : Line) → length table ≡ 5632 → length names ≡ 9728 → length (nameColumns line) ≡ 19 → SoundLine l
     → Agrees st table names line room (rules.printOf (dayOf st table names) l) (afterLine (dayOf st table names) (nameColumns line) l) (stateRefusal (dayOf st table names) (nameColumns line) l (refuse (ltb room (length (rules.printOf (dayOf st table names) l))) Room none)) (linePlan st table names (nameColumns line) l)
-unfolding SoundLine Six
-same-line st table names line room (Dated n) e f g h k = same-date st table names line room (nameColumns line) refl e f g n
-same-line st table names line room (Listed l) e f g h k = same-listing st table names line room (nameColumns line) refl e f g l h
-same-line st table names line room (Moded m) e f g h k = same-mode st table names line room (nameColumns line) refl e f g m
-same-line st table names line room (Leveled n) e f g h k = same-level st table names line room (nameColumns line) refl e f g n
-same-line st table names line room (Stepped n) e f g h k = same-step st table names line room (nameColumns line) refl e f g n
-same-line st table names line room (Traded t) e f g h k = same-trade st table names line room (nameColumns line) refl e f g t h
-same-line st table names line room (Cancelled t) e f g h k = absurd k
-same-line st table names line room (Erred t) e f g h k = absurd k
-same-line st table names line room (Corrected c) e f g h k = absurd k
+unfolding SoundLine
+same-line st table names line room (Dated n) e f g h = same-date st table names line room (nameColumns line) refl e f g n
+same-line st table names line room (Listed l) e f g h = same-listing st table names line room (nameColumns line) refl e f g l h
+same-line st table names line room (Moded m) e f g h = same-mode st table names line room (nameColumns line) refl e f g m
+same-line st table names line room (Leveled n) e f g h = same-level st table names line room (nameColumns line) refl e f g n
+same-line st table names line room (Stepped n) e f g h = same-step st table names line room (nameColumns line) refl e f g n
+same-line st table names line room (Traded t) e f g h = same-trade st table names line room (nameColumns line) refl e f g t h
+same-line st table names line room (Cancelled t) e f g h = same-cancel st table names line room (nameColumns line) refl e f g t h
+same-line st table names line room (Erred t) e f g h = same-error st table names line room (nameColumns line) refl e f g t h
+same-line st table names line room (Corrected c) e f g h = same-correction st table names line room (nameColumns line) refl e f g c h
 
 outcome-by : (p : Plan) (n : ℕ) → outcomeOf p n ≡ outcomeBy (stopOf p) n
 unfolding outcomeOf outcomeBy stopOf
@@ -208,19 +231,21 @@ outcome-by (Change m) n = refl
 outcome-by (Level l) n = refl
 outcome-by (Step l) n = refl
 outcome-by (Print t) n = refl
+outcome-by (Cancel t) n = refl
+outcome-by (Correct c) n = refl
 
 -- ---- any line
 
-module _ (st : Settings) (table names line : List ℕ) (room : ℕ) (rows : length table ≡ 5632) (places : length names ≡ 9728) (taken : isDeferred (column 1 line) ≡ false) where
+module _ (st : Settings) (table names line : List ℕ) (room : ℕ) (rows : length table ≡ 5632) (places : length names ≡ 9728) where
   agrees : Agrees st table names line room (rules.printOf (dayOf st table names) (lineOf line)) (afterLine (dayOf st table names) (nameColumns line) (lineOf line)) (refusalOf (dayOf st table names) line room) (planOf st table names line)
   unfolding refusalOf refuse undated planOf readPlan isFormed isRanged lineOf dayOf
   agrees =
       asks st table names line room _ _ _ _ _ _ _ _ refl (λ e. stops st table names line room _ _ Shape) (λ e.
-      asks st table names line room _ _ _ _ _ _ _ _ (ap not (kinds (column 1 line) taken)) (λ f. stops st table names line room _ _ Kind) (λ f.
+      asks st table names line room _ _ _ _ _ _ _ _ refl (λ f. stops st table names line room _ _ Kind) (λ f.
       asks st table names line room _ _ _ _ _ _ _ _ refl (λ g. stops st table names line room _ _ NoDate) (λ g.
       asks st table names line room _ _ _ _ _ _ _ _ refl (λ h. stops st table names line room _ _ Form) (λ h.
       asks st table names line room _ _ _ _ _ _ _ _ refl (λ i. stops st table names line room _ _ Value) (λ i.
-      same-line st table names line room (lineOf line) rows places (name-length line (shaped line (isShaped line) refl e)) (sound-line line (ofKind (column 1 line) line) refl i) (six (column 1 line) line (sym (kinds (column 1 line) taken) ∙ not-false (isKind (column 1 line)) f)))))))
+      same-line st table names line room (lineOf line) rows places (name-length line (shaped line (isShaped line) refl e)) (sound-line line (ofKind (column 1 line) line) refl i))))))
 
   abbrev call : Call
   call = record { line = line; room = room }
@@ -240,6 +265,8 @@ module _ (st : Settings) (table names line : List ℕ) (room : ℕ) (rows : leng
   ended (Level n) h = (sym (h .0), sym (h .1))
   ended (Step n) h = (sym (h .0), sym (h .1))
   ended (Print t) h = (sym (h .0), sym (h .1))
+  ended (Cancel t) h = (sym (h .0), sym (h .1))
+  ended (Correct c) h = (sym (h .0), sym (h .1))
 
   -- room or not
   fitted-ended : (p : Plan) → Ended p (stopOf p) → Ended (fittedOf st (printedName names p) p room) (stopOf (fittedOf st (printedName names p) p room))

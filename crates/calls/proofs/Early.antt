@@ -16,8 +16,8 @@ use Rattle.rules.specs.declared.Line.the-variants.{Dated}
 use Rattle.rules.specs.declared.Settings.{Settings}
 use Rattle.rules.specs.declared.Refusal.the-variants.{Room}
 use Rattle.planner.specs.declared.Plan.{Plan}
-use Rattle.planner.specs.declared.Plan.the-variants.{Stop, Open, Enter, Change, Level, Step, Print}
-use Rattle.planner.specs.Plan.{isOpen, datePlan, linePlan, readPlan, planOf}
+use Rattle.planner.specs.declared.Plan.the-variants.{Stop, Open, Enter, Change, Level, Step, Print, Cancel, Correct}
+use Rattle.planner.specs.Plan.{datePlan, linePlan, readPlan, planOf}
 use Rattle.engine.specs.Taken.{printedName, textOf, fittedOf, asked}
 
 unfoldable pub Early : Plan → Type 0
@@ -28,6 +28,8 @@ Early (Change m) = ⊥
 Early (Level n) = ⊥
 Early (Step n) = ⊥
 Early (Print t) = ⊥
+Early (Cancel t) = ⊥
+Early (Correct c) = ⊥
 
 either : (b : Bool) (p q : Plan) → Early p → (b ≡ false → Early q) → Early (pick b p q)
 unfolding pick
@@ -91,6 +93,8 @@ no-name (Change k) m h = absurd h
 no-name (Level n) m h = absurd h
 no-name (Step n) m h = absurd h
 no-name (Print t) m h = absurd h
+no-name (Cancel t) m h = absurd h
+no-name (Correct c) m h = absurd h
 
 fitted-early : (st : Settings) (name : List ℕ) (p : Plan) (room : ℕ) → Early p → Early (fittedOf st name p room)
 unfolding fittedOf pick Early

@@ -8,7 +8,6 @@ use mathlib.Core.Option.{Option, none, some}
 use lib.ListN.{length, take, drop, replicate, length-append, length-take, length-drop}
 use lib.Seq.{take-at}
 use Rattle.text.specs.Put.{put}
-use Rattle.rules.specs.Columns.{column}
 use Rattle.rules.specs.Line.{nameColumns}
 use Rattle.rules.specs.Day.{Day, Call, opened, cleared, fresh, tapeOf, after, refusalOf}
 use Rattle.rules.specs.declared.Settings.{Settings}
@@ -17,7 +16,7 @@ use Rattle.table.specs.Rows.{dayOf, withRow, withName, numbers}
 use Rattle.table.proofs.Places.{length-stored}
 use Rattle.table.proofs.Held.{held-cleared}
 use Rattle.planner.specs.declared.Plan.{Plan}
-use Rattle.planner.specs.declared.Plan.the-variants.{Stop, Open, Enter, Change, Level, Step, Print}
+use Rattle.planner.specs.declared.Plan.the-variants.{Stop, Open, Enter, Change, Level, Step, Print, Cancel, Correct}
 use Rattle.planner.specs.Plan.{planOf}
 use Rattle.engine.specs.declared.Outcome.{Outcome}
 use Rattle.engine.specs.declared.Outcome.the-variants.{Accepted, Refused}
@@ -25,8 +24,8 @@ use Rattle.engine.specs.declared.Answer.{Answer}
 use Rattle.engine.specs.Taken.{printedName, textOf, fittedOf, asked, printOf, settingsAfter, tableAfter, namesAfter, outcomeOf, SoundPlan, Taken}
 use Rattle.engine.proofs.Sound.{sound-asked}
 use Rattle.engine.proofs.Steps.{fitted-sound}
-use Rattle.calls.specs.Held.{isDeferred, stopOf, dayAfter, ByRules}
-use Rattle.calls.specs.Run.{State, Sized, Lent, countOf, Run, callOf, tapeFrom, dayFrom, AllTaken, Holds}
+use Rattle.calls.specs.Held.{stopOf, dayAfter, ByRules}
+use Rattle.calls.specs.Run.{State, Sized, Lent, countOf, Run, callOf, tapeFrom, dayFrom, Holds}
 use Rattle.calls.specs.Run.Run.{done, call}
 use Rattle.calls.specs.Run.Holds.{held, undated}
 use Rattle.calls.proofs.Agree.{by-rules}
@@ -43,6 +42,8 @@ table-length table (Change m) h = h
 table-length table (Level n) h = h
 table-length table (Step n) h = h
 table-length table (Print t) h = length-stored (numbers (t .after)) table (t .place * 11) 0 ∙ h
+table-length table (Cancel t) h = h
+table-length table (Correct c) h = length-stored (numbers (c .after)) table (c .place * 11) 0 ∙ h
 
 columns-length : (line : List ℕ) → length line ≡ 100 → length (nameColumns line) ≡ 19
 columns-length line h = rw (length-take, length-drop) (omega arith)
@@ -60,6 +61,8 @@ names-length names line (Change m) k h = h
 names-length names line (Level n) k h = h
 names-length names line (Step n) k h = h
 names-length names line (Print t) k h = h
+names-length names line (Cancel t) k h = h
+names-length names line (Correct c) k h = h
 
 asked-sound : (st : Settings) (table names line : List ℕ) (room : ℕ) → SoundPlan line (asked st table names line room)
 unfolding asked
@@ -79,6 +82,8 @@ count-is st names (Change m) = refl
 count-is st names (Level n) = refl
 count-is st names (Step n) = refl
 count-is st names (Print t) = refl
+count-is st names (Cancel t) = refl
+count-is st names (Correct c) = refl
 
 module _ (s m : State) (c : Lent) (b : List ℕ) (r : Answer) (t : Taken (s .settings) (s .table) (s .names) (c .line) (c .tape) (m .table) (m .names) b r) (kept : r .settings ≡ m .settings) where
   abbrev p : Plan
@@ -103,9 +108,9 @@ module _ (s m : State) (c : Lent) (b : List ℕ) (r : Answer) (t : Taken (s .set
   link-day = rw (sym kept ∙ t .settings, t .table-is, t .names-is)
 
   -- from tables that hold a day
-  link-held : (day : Day) → Sized s → isDeferred (column 1 (c .line)) ≡ false → dayOf (s .settings) (s .table) (s .names) ≡ day → (take (countOf (r .outcome)) b ≡ tapeOf day (callOf c)) × (dayOf (m .settings) (m .table) (m .names) ≡ after day (callOf c))
-  link-held day h k e =
-      let a = by-rules (s .settings) (s .table) (s .names) (c .line) (length (c .tape)) (h .rows) (h .places) k in
+  link-held : (day : Day) → Sized s → dayOf (s .settings) (s .table) (s .names) ≡ day → (take (countOf (r .outcome)) b ≡ tapeOf day (callOf c)) × (dayOf (m .settings) (m .table) (m .names) ≡ after day (callOf c))
+  link-held day h e =
+      let a = by-rules (s .settings) (s .table) (s .names) (c .line) (length (c .tape)) (h .rows) (h .places) in
       rw (← e) (link-tape ∙ sym (a .print-is), link-day ∙ sym (a .day-is))
 
 -- ---- before the first date line
@@ -119,6 +124,8 @@ noughts table names line (Change m) h = absurd h
 noughts table names line (Level n) h = absurd h
 noughts table names line (Step n) h = absurd h
 noughts table names line (Print t) h = absurd h
+noughts table names line (Cancel t) h = absurd h
+noughts table names line (Correct c) h = absurd h
 
 early-print : (st : Settings) (m n : List ℕ) (p : Plan) → Early p → printOf st m p ≡ printOf st n p
 unfolding Early printOf textOf printedName
@@ -129,12 +136,14 @@ early-print st m n (Change k) h = absurd h
 early-print st m n (Level k) h = absurd h
 early-print st m n (Step k) h = absurd h
 early-print st m n (Print t) h = absurd h
+early-print st m n (Cancel t) h = absurd h
+early-print st m n (Correct c) h = absurd h
 
 holds-as : (m : State) (st : Settings) (table names : List ℕ) (day : Day) → m .settings ≡ st → m .table ≡ table → m .names ≡ names → Holds (record { settings = st; table = table; names = names }) day → Holds m day
 holds-as m st table names day e f g (held h) = held (rw (e, f, g) h)
 holds-as m st table names day e f g (undated h k) = undated (e ∙ h) k
 
-module _ (s m : State) (c : Lent) (b : List ℕ) (r : Answer) (t : Taken (s .settings) (s .table) (s .names) (c .line) (c .tape) (m .table) (m .names) b r) (kept : r .settings ≡ m .settings) (first : s .settings ≡ opened 0) (k : isDeferred (column 1 (c .line)) ≡ false) where
+module _ (s m : State) (c : Lent) (b : List ℕ) (r : Answer) (t : Taken (s .settings) (s .table) (s .names) (c .line) (c .tape) (m .table) (m .names) b r) (kept : r .settings ≡ m .settings) (first : s .settings ≡ opened 0) where
   abbrev room : ℕ
   room = length (c .tape)
 
@@ -148,7 +157,7 @@ module _ (s m : State) (c : Lent) (b : List ℕ) (r : Answer) (t : Taken (s .set
   early-q = early-asked (c .line) room (replicate 5632 0) (replicate 9728 0)
 
   from-fresh : ByRules (opened 0) (replicate 5632 0) (replicate 9728 0) (c .line) room
-  from-fresh = by-rules (opened 0) (replicate 5632 0) (replicate 9728 0) (c .line) room refl refl k
+  from-fresh = by-rules (opened 0) (replicate 5632 0) (replicate 9728 0) (c .line) room refl refl
 
   is-fresh : dayOf (opened 0) (replicate 5632 0) (replicate 9728 0) ≡ fresh
   unfolding fresh
@@ -173,18 +182,18 @@ module _ (s m : State) (c : Lent) (b : List ℕ) (r : Answer) (t : Taken (s .set
 
 -- ---- the whole list
 
-link-holds : (s m : State) (c : Lent) (b : List ℕ) (r : Answer) (t : Taken (s .settings) (s .table) (s .names) (c .line) (c .tape) (m .table) (m .names) b r) (kept : r .settings ≡ m .settings) (day : Day) → Sized s → isDeferred (column 1 (c .line)) ≡ false → Holds s day → (take (countOf (r .outcome)) b ≡ tapeOf day (callOf c)) × Holds m (after day (callOf c))
-link-holds s m c b r t kept day z k (held e) = let h = link-held s m c b r t kept day z k e in (h .0, held (h .1))
-link-holds s m c b r t kept day z k (undated e f) = rw f (first-tape s m c b r t kept e k, first-holds s m c b r t kept e k)
+link-holds : (s m : State) (c : Lent) (b : List ℕ) (r : Answer) (t : Taken (s .settings) (s .table) (s .names) (c .line) (c .tape) (m .table) (m .names) b r) (kept : r .settings ≡ m .settings) (day : Day) → Sized s → Holds s day → (take (countOf (r .outcome)) b ≡ tapeOf day (callOf c)) × Holds m (after day (callOf c))
+link-holds s m c b r t kept day z (held e) = let h = link-held s m c b r t kept day z e in (h .0, held (h .1))
+link-holds s m c b r t kept day z (undated e f) = rw f (first-tape s m c b r t kept e, first-holds s m c b r t kept e)
 
-pub run-by-rules : {s e : State} {cs : List Lent} {out : List ℕ} → Run s cs e out → (day : Day) → Sized s → AllTaken cs → Holds s day → (out ≡ tapeFrom day cs) × Holds e (dayFrom day cs)
+pub run-by-rules : {s e : State} {cs : List Lent} {out : List ℕ} → Run s cs e out → (day : Day) → Sized s → Holds s day → (out ≡ tapeFrom day cs) × Holds e (dayFrom day cs)
 unfolding tapeFrom dayFrom
-run-by-rules done day z k h = (refl, h)
-run-by-rules (call {s} {m} {e} {c} {cs} {b} {out} {r} t kept rest) day z k h =
-    let l = link-holds s m c b r t kept day z (k .0) h in
-    let i = run-by-rules rest (after day (callOf c)) (link-sized s m c b r t kept z) (k .1) (l .1) in
+run-by-rules done day z h = (refl, h)
+run-by-rules (call {s} {m} {e} {c} {cs} {b} {out} {r} t kept rest) day z h =
+    let l = link-holds s m c b r t kept day z h in
+    let i = run-by-rules rest (after day (callOf c)) (link-sized s m c b r t kept z) (l .1) in
     (rw (l .0) (ap (λ (x : List ℕ). tapeOf day (callOf c) ++ x) (i .0)), i .1)
 
 -- from a fresh state, whatever the lent tables hold
-pub fresh-run : {s e : State} {cs : List Lent} {out : List ℕ} → Run s cs e out → s .settings ≡ opened 0 → Sized s → AllTaken cs → (out ≡ tapeFrom fresh cs) × Holds e (dayFrom fresh cs)
-fresh-run r f z k = run-by-rules r fresh z k (undated f refl)
+pub fresh-run : {s e : State} {cs : List Lent} {out : List ℕ} → Run s cs e out → s .settings ≡ opened 0 → Sized s → (out ≡ tapeFrom fresh cs) × Holds e (dayFrom fresh cs)
+fresh-run r f z = run-by-rules r fresh z (undated f refl)

@@ -1,26 +1,18 @@
 -- One call by the rules: what a plan stops, and the day that the tables hold after it. Assumes nothing.
 use Prim.Native.Nat.{ℕ}
 use mathlib.Core.Path.{_≡_}
-use mathlib.Core.Bool.{Bool}
 use mathlib.Core.List.{List}
 use mathlib.Core.Option.{Option, none, some}
 use lib.ListN.{length}
-use Rattle.text.specs.Bytes.{bytes}
-use Rattle.text.specs.Pick.{among}
-use Rattle.rules.specs.Columns.{column}
 use Rattle.rules.specs.Day.{Day, Call, refusalOf, tapeOf, after}
 use Rattle.rules.specs.declared.Refusal.{Refusal}
 use Rattle.rules.specs.declared.Settings.{Settings}
 use Rattle.table.specs.Rows.{dayOf}
 use Rattle.planner.specs.declared.Plan.{Plan}
-use Rattle.planner.specs.declared.Plan.the-variants.{Stop, Open, Enter, Change, Level, Step, Print}
+use Rattle.planner.specs.declared.Plan.the-variants.{Stop, Open, Enter, Change, Level, Step, Print, Cancel, Correct}
 use Rattle.engine.specs.declared.Outcome.{Outcome}
 use Rattle.engine.specs.declared.Outcome.the-variants.{Accepted, Refused}
 use Rattle.engine.specs.Taken.{asked, printOf, settingsAfter, tableAfter, namesAfter, outcomeOf}
-
--- the kinds that the rules know and the engine does not take yet
-unfoldable pub isDeferred : ℕ → Bool
-isDeferred c = among c (bytes "XEC")
 
 unfoldable pub stopOf : Plan → Option Refusal
 stopOf (Stop r) = some r
@@ -30,6 +22,8 @@ stopOf (Change m) = none
 stopOf (Level n) = none
 stopOf (Step n) = none
 stopOf (Print t) = none
+stopOf (Cancel t) = none
+stopOf (Correct c) = none
 
 -- the day that settings and tables hold after a plan
 unfoldable pub dayAfter : Settings → List ℕ → List ℕ → List ℕ → Plan → Day

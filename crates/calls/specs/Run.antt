@@ -1,10 +1,8 @@
 -- Lists of calls of the engine, each on the state that the last one left, and what the rules say of them. Assumes nothing.
 use Prim.Native.Nat.{ℕ}
 use mathlib.Core.Path.{_≡_}
-use mathlib.Core.Bool.{Bool, true, false}
 use mathlib.Core.List.{List, [], _∷_, _++_}
 use lib.ListN.{length, take}
-use Rattle.rules.specs.Columns.{column}
 use Rattle.rules.specs.Day.{Day, Call, opened, fresh, tapeOf, after}
 use Rattle.rules.specs.declared.Settings.{Settings}
 use Rattle.table.specs.Rows.{dayOf}
@@ -12,7 +10,6 @@ use Rattle.engine.specs.declared.Outcome.{Outcome}
 use Rattle.engine.specs.declared.Outcome.the-variants.{Accepted, Refused}
 use Rattle.engine.specs.declared.Answer.{Answer}
 use Rattle.engine.specs.Taken.{Taken}
-use Rattle.calls.specs.Held.{isDeferred}
 
 -- what a call finds and leaves: settings by value, two lent tables
 pub record State : Type 0 where
@@ -53,11 +50,6 @@ tapeFrom day (c ∷ cs) = tapeOf day (callOf c) ++ tapeFrom (after day (callOf c
 unfoldable pub dayFrom : Day → List Lent → Day
 dayFrom day [] = day
 dayFrom day (c ∷ cs) = dayFrom (after day (callOf c)) cs
-
--- no line of a kind that the engine does not take yet
-abbrev pub AllTaken : List Lent → Type 0
-AllTaken [] = Unit {0}
-AllTaken (c ∷ cs) = (isDeferred (column 1 (c .line)) ≡ false) × AllTaken cs
 
 -- the state holds the day: its tables do, or no date line was accepted yet, and then they may hold anything
 pub data Holds (s : State) (day : Day) : Type 0 where

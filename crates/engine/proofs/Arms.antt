@@ -2,6 +2,7 @@
 use Prim.Native.Nat.{ℕ, _*_, _≤_, _<_}
 use native.Mathlib.Omega.{arith}
 use mathlib.Core.Path.{_≡_, refl, sym, ap, _∙_}
+use mathlib.Core.Bool.{Bool, true, false}
 use mathlib.Core.List.{List, []}
 use lib.ListN.{length, replicate}
 use Rattle.text.specs.Put.{Written}
@@ -16,11 +17,13 @@ use Rattle.rules.specs.declared.Settings.{Settings}
 use Rattle.rules.specs.declared.Security.{Security}
 use Rattle.table.specs.Rows.{withRow, nameOf, withName}
 use Rattle.planner.specs.declared.TradePlan.{TradePlan}
+use Rattle.planner.specs.declared.CancelPlan.{CancelPlan}
+use Rattle.planner.specs.declared.CorrectionPlan.{CorrectionPlan}
 use Rattle.planner.specs.declared.Plan.{Plan}
-use Rattle.planner.specs.declared.Plan.the-variants.{Stop, Open, Enter, Change, Level, Step, Print}
+use Rattle.planner.specs.declared.Plan.the-variants.{Stop, Open, Enter, Change, Level, Step, Print, Cancel, Correct}
 use Rattle.engine.specs.declared.Outcome.{Outcome}
 use Rattle.engine.specs.declared.Outcome.the-variants.{Accepted, Refused}
-use Rattle.engine.specs.Taken.{printedName, printText, textOf, settingsAfter, tableAfter, namesAfter, outcomeOf, SoundPrint, SoundPlan}
+use Rattle.engine.specs.Taken.{printedName, printText, cancelled, corrected, textOf, settingsAfter, tableAfter, namesAfter, outcomeOf, SoundPrint, SoundCancel, SoundCorrect, SoundPlan}
 
 -- ---- the name that prints: of a trade's plan only
 
@@ -53,7 +56,15 @@ module _ (names : List ℕ) (p : Plan) where
   unfolding printedName
   name-print t e = rw e
 
-pub ruleset printed-names = (name-stop, name-open, name-enter, name-change, name-level, name-step, name-print)
+  pub name-cancel : (t : CancelPlan) → p ≡ Cancel t → printedName names p ≡ nameText false (nameOf names (t .place))
+  unfolding printedName
+  name-cancel t e = rw e
+
+  pub name-correct : (c : CorrectionPlan) → p ≡ Correct c → printedName names p ≡ nameText false (nameOf names (c .place))
+  unfolding printedName
+  name-correct c e = rw e
+
+pub ruleset printed-names = (name-stop, name-open, name-enter, name-change, name-level, name-step, name-print, name-cancel, name-correct)
 
 -- ---- the print
 
@@ -98,7 +109,15 @@ module _ (st : Settings) (name : List ℕ) (p : Plan) where
   unfolding textOf
   text-print t e = rw e
 
-pub ruleset texts = (text-change, text-level, text-step, text-print)
+  pub text-cancel : (t : CancelPlan) → p ≡ Cancel t → textOf st name p ≡ cancelled name t
+  unfolding textOf
+  text-cancel t e = rw e
+
+  pub text-correct : (c : CorrectionPlan) → p ≡ Correct c → textOf st name p ≡ corrected name c
+  unfolding textOf
+  text-correct c e = rw e
+
+pub ruleset texts = (text-change, text-level, text-step, text-print, text-cancel, text-correct)
 
 pub ruleset quiet = (text-stop, text-open, text-enter, length-stop, length-open, length-enter)
 
@@ -133,7 +152,15 @@ module _ (st : Settings) (p : Plan) where
   unfolding settingsAfter
   settings-print t e = rw e
 
-pub ruleset settings = (settings-stop, settings-open, settings-enter, settings-change, settings-level, settings-step, settings-print)
+  pub settings-cancel : (t : CancelPlan) → p ≡ Cancel t → st ≡ settingsAfter st p
+  unfolding settingsAfter
+  settings-cancel t e = rw e
+
+  pub settings-correct : (c : CorrectionPlan) → p ≡ Correct c → st ≡ settingsAfter st p
+  unfolding settingsAfter
+  settings-correct c e = rw e
+
+pub ruleset settings = (settings-stop, settings-open, settings-enter, settings-change, settings-level, settings-step, settings-print, settings-cancel, settings-correct)
 
 -- ---- the table of numbers
 
@@ -166,7 +193,15 @@ module _ (table : List ℕ) (p : Plan) where
   unfolding tableAfter
   table-print t x e h = rw e h
 
-pub ruleset tables = (table-stop, table-open, table-enter, table-change, table-level, table-step, table-print)
+  pub table-cancel : (t : CancelPlan) → p ≡ Cancel t → table ≡ tableAfter table p
+  unfolding tableAfter
+  table-cancel t e = rw e
+
+  pub table-correct : (c : CorrectionPlan) (x : List ℕ) → p ≡ Correct c → x ≡ withRow table (c .place) (c .after) → x ≡ tableAfter table p
+  unfolding tableAfter
+  table-correct c x e h = rw e h
+
+pub ruleset tables = (table-stop, table-open, table-enter, table-change, table-level, table-step, table-print, table-cancel, table-correct)
 
 -- ---- the names
 
@@ -199,7 +234,15 @@ module _ (names line : List ℕ) (p : Plan) where
   unfolding namesAfter
   names-print t e = rw e
 
-pub ruleset named-after = (names-stop, names-open, names-enter, names-change, names-level, names-step, names-print)
+  pub names-cancel : (t : CancelPlan) → p ≡ Cancel t → names ≡ namesAfter names line p
+  unfolding namesAfter
+  names-cancel t e = rw e
+
+  pub names-correct : (c : CorrectionPlan) → p ≡ Correct c → names ≡ namesAfter names line p
+  unfolding namesAfter
+  names-correct c e = rw e
+
+pub ruleset named-after = (names-stop, names-open, names-enter, names-change, names-level, names-step, names-print, names-cancel, names-correct)
 
 -- ---- the outcome
 
@@ -232,7 +275,15 @@ module _ (p : Plan) (k : ℕ) where
   unfolding outcomeOf
   outcome-print t e = rw e
 
-pub ruleset outcomes = (outcome-stop, outcome-open, outcome-enter, outcome-change, outcome-level, outcome-step, outcome-print)
+  pub outcome-cancel : (t : CancelPlan) → p ≡ Cancel t → Accepted k ≡ outcomeOf p k
+  unfolding outcomeOf
+  outcome-cancel t e = rw e
+
+  pub outcome-correct : (c : CorrectionPlan) → p ≡ Correct c → Accepted k ≡ outcomeOf p k
+  unfolding outcomeOf
+  outcome-correct c e = rw e
+
+pub ruleset outcomes = (outcome-stop, outcome-open, outcome-enter, outcome-change, outcome-level, outcome-step, outcome-print, outcome-cancel, outcome-correct)
 
 -- ---- what a plan owes
 
@@ -243,6 +294,20 @@ module _ (line : List ℕ) (p : Plan) (sound : SoundPlan line p) where
 
   pub place-print : (t : TradePlan) → p ≡ Print t → t .place < 512
   place-print t e = (sound-print t e) .place-is
+
+  pub sound-cancel : (t : CancelPlan) → p ≡ Cancel t → SoundCancel t
+  unfolding SoundPlan
+  sound-cancel t e = rw e at sound
+
+  pub place-cancel : (t : CancelPlan) → p ≡ Cancel t → t .place < 512
+  place-cancel t e = (sound-cancel t e) .place-is
+
+  pub sound-correct : (c : CorrectionPlan) → p ≡ Correct c → SoundCorrect c
+  unfolding SoundPlan
+  sound-correct c e = rw e at sound
+
+  pub place-correct : (c : CorrectionPlan) → p ≡ Correct c → c .place < 512
+  place-correct c e = (sound-correct c e) .place-is
 
   pub place-enter : (i : ℕ) (s : Security) → p ≡ Enter i s → i < 512
   unfolding SoundPlan

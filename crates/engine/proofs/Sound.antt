@@ -13,15 +13,16 @@ use Rattle.rules.specs.Line.{isShaped, isRanged, lineOf, nameColumns, ofKind}
 use Rattle.rules.specs.Day.{isEntered}
 use Rattle.rules.specs.declared.Listing.{Listing}
 use Rattle.rules.specs.declared.Trade.{Trade}
+use Rattle.rules.specs.declared.Correction.{Correction}
 use Rattle.rules.specs.declared.Line.{Line}
 use Rattle.rules.specs.declared.Line.the-variants.{Dated, Listed, Moded, Leveled, Stepped, Traded, Cancelled, Erred, Corrected}
 use Rattle.rules.specs.declared.Settings.{Settings}
 use Rattle.rules.specs.declared.Security.{Security}
 use Rattle.planner.specs.declared.Plan.{Plan}
-use Rattle.planner.specs.declared.Plan.the-variants.{Stop, Open, Enter, Change, Level, Step, Print}
-use Rattle.planner.specs.Plan.{datePlan, listingPlan, printPlan, tradePlan, linePlan, readPlan, planOf, SoundListing, SoundTrade, SoundLine}
+use Rattle.planner.specs.declared.Plan.the-variants.{Stop, Open, Enter, Change, Level, Step, Print, Cancel, Correct}
+use Rattle.planner.specs.Plan.{datePlan, listingPlan, unlessStopped, printPlan, tradePlan, cancelOf, cancelPlan, correctionOf, correctionPlan, linePlan, readPlan, planOf, SoundListing, SoundTrade, SoundCorrection, SoundLine}
 use Rattle.planner.proofs.Ranged.{sound-line, shaped}
-use Rattle.engine.specs.Taken.{SoundPrint, SoundPlan}
+use Rattle.engine.specs.Taken.{SoundPrint, SoundCancel, SoundCorrect, SoundPlan}
 
 either : (line : List ℕ) (b : Bool) (p q : Plan) → SoundPlan line p → (b ≡ false → SoundPlan line q) → SoundPlan line (pick b p q)
 unfolding pick
@@ -48,12 +49,27 @@ module _ (st : Settings) (table names line : List ℕ) where
       either line _ _ _ tt (λ f.
       either line _ _ _ tt (λ g. (omega (arith, h .low, h .high), k))))
 
-  trade-sound : (s : Security) (t : Trade) → SoundTrade t → SoundPlan line (tradePlan st s t)
-  unfolding tradePlan printPlan SoundPlan
-  trade-sound s t h =
+  stops-sound : (s : Security) (t : Trade) (p : Plan) → (1 ≤ s .unit → SoundPlan line p) → SoundPlan line (unlessStopped s t p)
+  unfolding unlessStopped SoundPlan
+  stops-sound s t p h =
       either line _ _ _ tt (λ e.
       either line _ _ _ tt (λ f.
-      either line _ _ _ tt (λ g. record { place-is = omega (arith, h .low, h .high); unit-is = has-unit s e; price-is = h .price .decimals; previous-is = h .previous })))
+      either line _ _ _ tt (λ g. h (has-unit s e))))
+
+  trade-sound : (s : Security) (t : Trade) → SoundTrade t → SoundPlan line (tradePlan st s t)
+  unfolding tradePlan printPlan SoundPlan
+  trade-sound s t h = stops-sound s t _ (λ u. record { place-is = omega (arith, h .low, h .high); unit-is = u; price-is = h .price .decimals; previous-is = h .previous })
+
+  cancel-sound : (error : Bool) (s : Security) (t : Trade) → SoundTrade t → SoundPlan line (cancelPlan error st s t)
+  unfolding cancelPlan cancelOf SoundPlan
+  cancel-sound error s t h = stops-sound s t _ (λ u. record { place-is = omega (arith, h .low, h .high); unit-is = u; price-is = h .price .decimals; previous-is = h .previous })
+
+  correction-sound : (s : Security) (c : Correction) → SoundCorrection c → SoundPlan line (correctionPlan st s c)
+  unfolding correctionPlan correctionOf SoundPlan
+  correction-sound s c h =
+      either line _ _ _ tt (λ e.
+      either line _ _ _ tt (λ f.
+      either line _ _ _ tt (λ g. record { place-is = omega (arith, h .low, h .high); unit-is = has-unit s e; original-is = h .original .decimals; original-previous = h .original-previous; correcting-is = h .correcting .decimals; correcting-previous = h .correcting-previous })))
 
   line-sound : (name : List ℕ) (l : Line) → SoundLine l → length line ≡ 100 → SoundPlan line (linePlan st table names name l)
   unfolding linePlan SoundLine SoundPlan
@@ -63,9 +79,9 @@ module _ (st : Settings) (table names line : List ℕ) where
   line-sound name (Leveled n) h k = tt
   line-sound name (Stepped n) h k = tt
   line-sound name (Traded t) h k = trade-sound _ t h
-  line-sound name (Cancelled t) h k = tt
-  line-sound name (Erred t) h k = tt
-  line-sound name (Corrected c) h k = tt
+  line-sound name (Cancelled t) h k = cancel-sound false _ t h
+  line-sound name (Erred t) h k = cancel-sound true _ t h
+  line-sound name (Corrected c) h k = correction-sound _ c h
 
   read-sound : length line ≡ 100 → SoundPlan line (readPlan st table names line)
   unfolding readPlan SoundPlan isRanged lineOf

@@ -13,17 +13,19 @@ use Rattle.text.specs.Put.{put, Written}
 use Rattle.text.specs.Pick.{pick, opt}
 use Rattle.rules.specs.Names.{nameText}
 use Rattle.rules.specs.Side.{sideText}
+use Rattle.rules.specs.Correction.{correctionText}
 use Rattle.rules.specs.declared.Settings.{Settings}
 use Rattle.rules.specs.declared.Refusal.the-variants.{Room}
 use Rattle.symbol.proofs.Text.{name-short}
 use Rattle.table.specs.Rows.{nameOf}
 use Rattle.planner.specs.declared.TradePlan.{TradePlan}
+use Rattle.planner.specs.declared.CorrectionPlan.{CorrectionPlan}
 use Rattle.planner.specs.declared.Plan.{Plan}
 use Rattle.planner.specs.declared.Plan.the-variants.{Stop, Open, Enter, Change, Level, Step, Print}
 use Rattle.planner.specs.Plan.{planOf}
 use Rattle.engine.specs.declared.Outcome.{Outcome}
 use Rattle.engine.specs.declared.Answer.{Answer}
-use Rattle.engine.specs.Taken.{printedName, printText, textOf, fittedOf, asked, printOf, settingsAfter, tableAfter, namesAfter, outcomeOf, SoundPlan, Taken}
+use Rattle.engine.specs.Taken.{printedName, printText, corrected, textOf, fittedOf, asked, printOf, settingsAfter, tableAfter, namesAfter, outcomeOf, SoundPlan, Taken}
 
 -- what a writer left at the front
 pub front : {t b a : List ℕ} {n : ℕ} → Written t b a n → take n a ≡ t
@@ -32,6 +34,10 @@ front {t} {b} {a} {n} w = ap (take n) (w .tape) ∙ take-at t (drop (length t) b
 
 pub front-length : {t b a : List ℕ} {n : ℕ} → Written t b a n → n ≡ length (take n a)
 front-length {t} {b} {a} {n} w = w .count-is ∙ ap length (sym (front w))
+
+-- no longer than the part it was lent
+pub front-short : {t b a : List ℕ} {n : ℕ} (m : ℕ) → Written t b a n → length b ≡ m → length (take n a) ≤ m
+front-short {t} {b} {a} {n} m w e = omega (arith, front-length w, w .within, e)
 
 -- ---- the name at a place
 
@@ -61,6 +67,19 @@ module _ (name : List ℕ) (t : TradePlan) where
   some-print h = rw h
 
 pub ruleset prints = (no-print, some-print)
+
+-- ---- a correction's print, a cancel's
+
+module _ (name : List ℕ) (c : CorrectionPlan) where
+  pub no-correction : c .prints ≡ false → corrected name c ≡ []
+  unfolding corrected opt
+  no-correction h = rw h
+
+  pub some-correction : c .prints ≡ true → corrected name c ≡ correctionText name (c .network) (c .unit) (c .full) (c .shows) (c .original) (c .correcting)
+  unfolding corrected opt
+  some-correction h = rw h
+
+pub ruleset corrections = (no-correction, some-correction)
 
 -- ---- room for it
 

@@ -1,6 +1,8 @@
 // The engine: one call takes one line. Any bytes of any length are a line; the state is settings by value and two lent tables
 // of fixed size, every value of which has a meaning; the tape is lent, of any length. Nothing is required. The promise is
 // `Taken`: the outcome, the settings, every byte of both tables and every byte of the tape.
+use planner::CancelPlan;
+use planner::CorrectionPlan;
 use planner::Plan;
 use planner::TradePlan;
 use rules::Mode;
@@ -13,7 +15,7 @@ ghost use Rattle.text.specs.Put.{Written};
 ghost use Rattle.rules.specs.Names.{nameText};
 ghost use Rattle.rules.specs.Day.{opened};
 ghost use Rattle.table.specs.Rows.{nameOf, withName};
-ghost use Rattle.engine.specs.Taken.{SoundPrint, SoundPlan, printedName, printText, textOf, fittedOf, settingsAfter, tableAfter, namesAfter, outcomeOf, Taken};
+ghost use Rattle.engine.specs.Taken.{SoundPrint, SoundCancel, SoundCorrect, SoundPlan, printedName, printText, cancelled, corrected, textOf, fittedOf, settingsAfter, tableAfter, namesAfter, outcomeOf, Taken};
 
 // Accepted, with the length of its print, 0 where nothing prints; or refused.
 pub enum Outcome {
@@ -50,6 +52,8 @@ fn write_printed_name(buffer: &mut [u8], names: &[u8; 9728], line: &[u8], p: Pla
         Plan::Level(_) => 0,
         Plan::Step(_) => 0,
         Plan::Print(t) => write_name(buffer, names, t.place, t.temporary),
+        Plan::Cancel(t) => write_name(buffer, names, t.place, false),
+        Plan::Correct(c) => write_name(buffer, names, c.place, false),
     }
 }
 
@@ -66,8 +70,28 @@ fn print_length(name: &[u8], t: TradePlan) -> usize
     0
 }
 
+fn cancel_length(name: &[u8], t: CancelPlan) -> usize
+    requires { ⌜ SoundCancel t ⌝ }
+    ensures { λ r. ⌜ r ≡ length (cancelled (now (name .entry)) t) ⌝ }
+{
+    let side = t.side;
+    amendment::cancel_length(t.error, name, t.network, t.unit, t.full, t.shows, side)
+}
+
+fn correction_length(name: &[u8], c: CorrectionPlan) -> usize
+    requires { ⌜ SoundCorrect c × (length (now name) ≤ 22) ⌝ }
+    ensures { λ r. ⌜ r ≡ length (corrected (now (name .entry)) c) ⌝ }
+{
+    let x = c.original;
+    let y = c.correcting;
+    if c.prints {
+        return amendment::correction_length(name, c.network, c.unit, c.full, c.shows, x, y);
+    }
+    0
+}
+
 fn text_length(st: Settings, name: &[u8], line: &[u8], p: Plan) -> usize
-    requires { ⌜ SoundPlan (now line) p ⌝ }
+    requires { ⌜ SoundPlan (now line) p × (length (now name) ≤ 22) ⌝ }
     ensures { λ r. ⌜ r ≡ length (textOf st (now (name .entry)) p) ⌝ }
 {
     let mode = st.mode;
@@ -79,12 +103,14 @@ fn text_length(st: Settings, name: &[u8], line: &[u8], p: Plan) -> usize
         Plan::Level(n) => announcement::level_length(n),
         Plan::Step(n) => announcement::step_length(mode, n),
         Plan::Print(t) => print_length(name, t),
+        Plan::Cancel(t) => cancel_length(name, t),
+        Plan::Correct(c) => correction_length(name, c),
     }
 }
 
 // 13: the lent tape is shorter than the print.
 fn fitted(st: Settings, name: &[u8], line: &[u8], p: Plan, room: usize) -> Plan
-    requires { ⌜ SoundPlan (now line) p ⌝ }
+    requires { ⌜ SoundPlan (now line) p × (length (now name) ≤ 22) ⌝ }
     ensures { λ r. ⌜ r ≡ fittedOf st (now (name .entry)) p room ⌝ }
 {
     if room < text_length(st, name, line, p) {
@@ -104,6 +130,35 @@ fn write_print(rest: &mut [u8], name: &[u8], t: TradePlan) -> usize
     0
 }
 
+fn write_cancel(rest: &mut [u8], name: &[u8], t: CancelPlan) -> usize
+    requires { ⌜ SoundCancel t × (length (cancelled (now name) t) ≤ length (now rest)) ⌝ }
+    ensures { λ r. ⌜ Written (cancelled (now (name .entry)) t) (now (rest .entry)) (now (rest .exit)) r ⌝ }
+{
+    let side = t.side;
+    amendment::write_cancel(
+        rest,
+        t.error,
+        name,
+        t.network,
+        t.unit,
+        t.full,
+        t.shows,
+        side,
+    )
+}
+
+fn write_correction(rest: &mut [u8], name: &[u8], c: CorrectionPlan) -> usize
+    requires { ⌜ SoundCorrect c × (length (corrected (now name) c) ≤ length (now rest)) ⌝ }
+    ensures { λ r. ⌜ Written (corrected (now (name .entry)) c) (now (rest .entry)) (now (rest .exit)) r ⌝ }
+{
+    let x = c.original;
+    let y = c.correcting;
+    if c.prints {
+        return amendment::write_correction(rest, name, c.network, c.unit, c.full, c.shows, x, y);
+    }
+    0
+}
+
 fn write_text(rest: &mut [u8], st: Settings, name: &[u8], line: &[u8], p: Plan) -> usize
     requires { ⌜ SoundPlan (now line) p × (length (textOf st (now name) p) ≤ length (now rest)) ⌝ }
     ensures { λ r. ⌜ Written (textOf st (now (name .entry)) p) (now (rest .entry)) (now (rest .exit)) r ⌝ }
@@ -117,6 +172,8 @@ fn write_text(rest: &mut [u8], st: Settings, name: &[u8], line: &[u8], p: Plan) 
         Plan::Level(n) => announcement::write_level(rest, n),
         Plan::Step(n) => announcement::write_step(rest, mode, n),
         Plan::Print(t) => write_print(rest, name, t),
+        Plan::Cancel(t) => write_cancel(rest, name, t),
+        Plan::Correct(c) => write_correction(rest, name, c),
     }
 }
 
@@ -160,6 +217,8 @@ fn settings_after(st: Settings, p: Plan) -> Settings
             minimum: n,
         },
         Plan::Print(_) => st,
+        Plan::Cancel(_) => st,
+        Plan::Correct(_) => st,
     }
 }
 
@@ -175,6 +234,8 @@ fn update_table(table: &mut [u64; 5632], line: &[u8], p: Plan)
         Plan::Level(_) => {}
         Plan::Step(_) => {}
         Plan::Print(t) => table::store(table, t.place, t.after),
+        Plan::Cancel(_) => {}
+        Plan::Correct(c) => table::store(table, c.place, c.after),
     }
 }
 
@@ -190,6 +251,8 @@ fn update_names(names: &mut [u8; 9728], line: &[u8], p: Plan)
         Plan::Level(_) => {}
         Plan::Step(_) => {}
         Plan::Print(_) => {}
+        Plan::Cancel(_) => {}
+        Plan::Correct(_) => {}
     }
 }
 
@@ -204,6 +267,8 @@ fn outcome_of(p: Plan, n: usize) -> Outcome
         Plan::Level(_) => Outcome::Accepted(n),
         Plan::Step(_) => Outcome::Accepted(n),
         Plan::Print(_) => Outcome::Accepted(n),
+        Plan::Cancel(_) => Outcome::Accepted(n),
+        Plan::Correct(_) => Outcome::Accepted(n),
     }
 }
 

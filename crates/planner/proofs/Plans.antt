@@ -8,6 +8,7 @@ use lib.ListN.{take, drop}
 use borrow.Author.Tests.{not-true, not-false}
 use Rattle.rules.specs.Names.{sameName}
 use Rattle.rules.specs.Trade.{printsTrade, tradeFull, tradeShows, afterTrade}
+use Rattle.rules.specs.Correction.{printsCorrection, correctionFull, correctionShows, cancelFull, cancelShows, afterCorrection}
 use Rattle.text.specs.Pick.{pick}
 use Rattle.rules.specs.Day.{isEntered, showsTemporary, entered, takenName}
 use Rattle.rules.specs.declared.Mode.{Mode}
@@ -15,15 +16,17 @@ use Rattle.rules.specs.declared.Listing.{Listing}
 use Rattle.rules.specs.declared.Correction.{Correction}
 use Rattle.rules.specs.declared.Line.{Line}
 use Rattle.rules.specs.declared.Line.the-variants.{Dated, Listed, Moded, Leveled, Stepped, Traded, Cancelled, Erred, Corrected}
-use Rattle.rules.specs.declared.Refusal.the-variants.{Kind, InUse, Name, SameName}
+use Rattle.rules.specs.declared.Refusal.the-variants.{InUse, Name, SameName}
 use Rattle.rules.specs.declared.Trade.{Trade}
 use Rattle.rules.specs.declared.Settings.{Settings}
 use Rattle.rules.specs.declared.Security.{Security}
 use Rattle.table.specs.Rows.{row, nameOf, rowsFrom, namesFrom}
 use Rattle.planner.specs.declared.TradePlan.{TradePlan}
+use Rattle.planner.specs.declared.CancelPlan.{CancelPlan}
+use Rattle.planner.specs.declared.CorrectionPlan.{CorrectionPlan}
 use Rattle.planner.specs.declared.Plan.{Plan}
-use Rattle.planner.specs.declared.Plan.the-variants.{Stop, Open, Enter, Change, Level, Step, Print}
-use Rattle.planner.specs.Plan.{datePlan, listingPlan, printPlan, tradePlan, linePlan, SoundListing, SoundTrade, SoundLine}
+use Rattle.planner.specs.declared.Plan.the-variants.{Stop, Open, Enter, Change, Level, Step, Print, Cancel, Correct}
+use Rattle.planner.specs.Plan.{datePlan, listingPlan, printPlan, tradePlan, cancelOf, cancelPlan, correctionOf, correctionPlan, linePlan, SoundListing, SoundTrade, SoundCorrection, SoundLine}
 
 -- ---- a name among those of entered securities
 
@@ -66,6 +69,30 @@ trade-there st table s t i r e h = rw (← e) h
 pub prints : (st : Settings) (s : Security) (t : Trade) (p : TradePlan) → p ≡ printPlan st s t → Print p ≡ Print (printPlan st s t)
 prints st s t p e = ap Print e
 
+-- ---- a cancel, an error, a correction
+
+pub planned-cancel : (error : Bool) (st : Settings) (s : Security) (t : Trade) (a b : Bool) → a ≡ cancelFull st s (t .side) → b ≡ cancelShows st (t .side)
+    → (record { error = error; place = t .security - 1; side = t .side; network = s .network; unit = s .unit; full = a; shows = b }) ≡ cancelOf error st s t
+unfolding cancelOf
+planned-cancel error st s t a b p q = rw (p, q)
+
+pub cancel-there : (error : Bool) (st : Settings) (table : List ℕ) (s : Security) (t : Trade) (i : ℕ) (r : Plan) → s ≡ row table i → r ≡ cancelPlan error st s t → r ≡ cancelPlan error st (row table i) t
+cancel-there error st table s t i r e h = rw (← e) h
+
+pub cancels : (error : Bool) (st : Settings) (s : Security) (t : Trade) (p : CancelPlan) → p ≡ cancelOf error st s t → Cancel p ≡ Cancel (cancelOf error st s t)
+cancels error st s t p e = ap Cancel e
+
+pub planned-correction : (st : Settings) (s : Security) (c : Correction) (a b d : Bool) (e : Security) → a ≡ printsCorrection st s (c .original) (c .correcting) → b ≡ correctionFull st s (c .original) (c .correcting) → d ≡ correctionShows st (c .original) (c .correcting) → e ≡ afterCorrection s (c .correcting)
+    → (record { place = c .security - 1; original = c .original; correcting = c .correcting; network = s .network; unit = s .unit; prints = a; full = b; shows = d; after = e }) ≡ correctionOf st s c
+unfolding correctionOf
+planned-correction st s c a b d e p q r u = rw (p, q, r, u)
+
+pub correction-there : (st : Settings) (table : List ℕ) (s : Security) (c : Correction) (i : ℕ) (r : Plan) → s ≡ row table i → r ≡ correctionPlan st s c → r ≡ correctionPlan st (row table i) c
+correction-there st table s c i r e h = rw (← e) h
+
+pub corrects : (st : Settings) (s : Security) (c : Correction) (p : CorrectionPlan) → p ≡ correctionOf st s c → Correct p ≡ Correct (correctionOf st s c)
+corrects st s c p e = ap Correct e
+
 -- ---- an S line
 
 module _ (table names name : List ℕ) (l : Listing) (s : Security) (r : Bool) (loaded : s ≡ row table (l .number - 1)) (answer : r ≡ isEntered s) where
@@ -96,6 +123,18 @@ module _ (st : Settings) (table names name : List ℕ) (l : Line) (x : Plan) whe
   unfolding linePlan
   line-listed n e h = rw e h
 
+  pub line-cancelled : (t : Trade) → l ≡ Cancelled t → x ≡ cancelPlan false st (row table (t .security - 1)) t → x ≡ linePlan st table names name l
+  unfolding linePlan
+  line-cancelled t e h = rw e h
+
+  pub line-erred : (t : Trade) → l ≡ Erred t → x ≡ cancelPlan true st (row table (t .security - 1)) t → x ≡ linePlan st table names name l
+  unfolding linePlan
+  line-erred t e h = rw e h
+
+  pub line-corrected : (c : Correction) → l ≡ Corrected c → x ≡ correctionPlan st (row table (c .security - 1)) c → x ≡ linePlan st table names name l
+  unfolding linePlan
+  line-corrected c e h = rw e h
+
   pub line-traded : (t : Trade) → l ≡ Traded t → x ≡ tradePlan st (row table (t .security - 1)) t → x ≡ linePlan st table names name l
   unfolding linePlan
   line-traded t e h = rw e h
@@ -113,23 +152,23 @@ module _ (st : Settings) (table names name : List ℕ) (l : Line) where
   unfolding linePlan
   line-stepped n e = rw e
 
-  pub line-cancelled : (t : Trade) → l ≡ Cancelled t → Stop Kind ≡ linePlan st table names name l
-  unfolding linePlan
-  line-cancelled t e = rw e
-
-  pub line-erred : (t : Trade) → l ≡ Erred t → Stop Kind ≡ linePlan st table names name l
-  unfolding linePlan
-  line-erred t e = rw e
-
-  pub line-corrected : (c : Correction) → l ≡ Corrected c → Stop Kind ≡ linePlan st table names name l
-  unfolding linePlan
-  line-corrected c e = rw e
-
 pub ruleset kinds = (line-dated, line-listed, line-traded, line-moded, line-leveled, line-stepped, line-cancelled, line-erred, line-corrected)
 
 pub sound-listed : (l : Line) (n : Listing) → SoundLine l → l ≡ Listed n → SoundListing n
 unfolding SoundLine
 sound-listed l n h e = rw e at h
+
+pub sound-cancelled : (l : Line) (t : Trade) → SoundLine l → l ≡ Cancelled t → SoundTrade t
+unfolding SoundLine
+sound-cancelled l t h e = rw e at h
+
+pub sound-erred : (l : Line) (t : Trade) → SoundLine l → l ≡ Erred t → SoundTrade t
+unfolding SoundLine
+sound-erred l t h e = rw e at h
+
+pub sound-corrected : (l : Line) (c : Correction) → SoundLine l → l ≡ Corrected c → SoundCorrection c
+unfolding SoundLine
+sound-corrected l c h e = rw e at h
 
 pub sound-traded : (l : Line) (t : Trade) → SoundLine l → l ≡ Traded t → SoundTrade t
 unfolding SoundLine

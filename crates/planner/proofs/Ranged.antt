@@ -11,7 +11,7 @@ use Rattle.text.specs.Pick.{pick}
 use Rattle.text.proofs.Tests.{pick-yes, pick-no}
 use Rattle.text.proofs.Texts.{and-left, and-right}
 use Rattle.rules.specs.Columns.{column, numberIn, valueOf, passes, between}
-use Rattle.rules.specs.Line.{isShaped, isPrintable, isFormed, isRanged, lineOf, ofKind, nameColumns, isPrice, previousRanged, sideRanged, sideOf, volumeIn, priceIn, decimalsIn, daysIn, previousIn, previousDecimalsIn, isSecurityNumber, isUnit, listingRanged, listingOf, tradeRanged, tradeOf}
+use Rattle.rules.specs.Line.{isShaped, isPrintable, isFormed, isRanged, lineOf, ofKind, nameColumns, isPrice, previousRanged, sideRanged, sideOf, volumeIn, priceIn, decimalsIn, daysIn, previousIn, previousDecimalsIn, isSecurityNumber, isUnit, listingRanged, listingOf, tradeRanged, tradeOf, correctionRanged, correctionOf, firstSide}
 use Rattle.rules.specs.declared.Number.{Number}
 use Rattle.rules.specs.declared.Number.the-variants.{Blank, Bad, Is}
 use Rattle.rules.specs.declared.Parsed.{Parsed}
@@ -20,7 +20,7 @@ use Rattle.rules.specs.declared.Refusal.the-variants.{Form, Value}
 use Rattle.prices.specs.Sound.{Sound}
 use Rattle.planner.specs.declared.Plan.{Plan}
 use Rattle.planner.specs.declared.Plan.the-variants.{Stop}
-use Rattle.planner.specs.Plan.{linePlan, readPlan, SoundListing, SoundTrade, SoundLine}
+use Rattle.planner.specs.Plan.{linePlan, readPlan, SoundListing, SoundTrade, SoundCorrection, SoundLine}
 
 sound-price : (n d : ℕ) → isPrice n d ≡ true → Sound (record { n = n; d = d })
 unfolding isPrice
@@ -59,6 +59,15 @@ sound-trade line h =
     let s = sound-side _ (and-right (isSecurityNumber _) _ h) in
     record { low = n .0; high = n .1; price = s .0; previous = s .1 }
 
+sound-correction : (line : List ℕ) → correctionRanged line ≡ true → SoundCorrection (correctionOf line)
+unfolding correctionRanged correctionOf
+sound-correction line h =
+    let n = sound-number _ (and-left (isSecurityNumber _) _ h) in
+    let b = and-right (isSecurityNumber _) _ h in
+    let x = sound-side _ (and-left (sideRanged (firstSide line)) _ b) in
+    let y = sound-side _ (and-right (sideRanged (firstSide line)) _ b) in
+    record { low = n .0; high = n .1; original = x .0; original-previous = x .1; correcting = y .0; correcting-previous = y .1 }
+
 sound-listing : (line : List ℕ) → listingRanged line ≡ true → SoundListing (listingOf line)
 unfolding listingRanged listingOf
 sound-listing line h = let n = sound-number _ (and-left (isSecurityNumber _) _ h) in record { low = n .0; high = n .1 }
@@ -81,8 +90,8 @@ owed kind line =
     (either _ _ _ (λ h. tt)
     (either _ _ _ (λ h. tt)
     (either _ _ _ (λ h. sound-trade line h)
-    (either _ _ _ (λ h. tt)
-    (either _ _ _ (λ h. tt) (λ h. tt))))))))
+    (either _ _ _ (λ h. sound-trade line h)
+    (either _ _ _ (λ h. sound-trade line h) (λ h. sound-correction line h))))))))
 
 module _ (line : List ℕ) (p : Parsed) (read : p ≡ ofKind (column 1 line) line) where
   pub sound-line : not (p .ranged) ≡ false → SoundLine (p .line)

@@ -1,5 +1,6 @@
 // What a line asks for: the refusal of 1 to 12 that stops it, by number, or what it prints and stores. Securities and names
 // stand in lent tables; a line is any bytes of any length.
+use rules::Correction;
 use rules::Line;
 use rules::Listing;
 use rules::Mode;
@@ -13,12 +14,12 @@ ghost use Prim.Native.Nat.{_-_, _≤_, _<_};
 ghost use mathlib.Core.Bool.{_&&_, not};
 ghost use lib.Dec.{eqb};
 ghost use lib.ListN.{length};
-ghost use Rattle.rules.specs.Line.{isShaped};
+ghost use Rattle.rules.specs.Line.{isShaped, isKind};
 ghost use Rattle.rules.specs.Names.{sameName};
 ghost use Rattle.rules.specs.Conditions.{onNetwork};
 ghost use Rattle.rules.specs.Day.{isEntered, takenName, entered};
 ghost use Rattle.table.specs.Rows.{row, nameOf, rowsFrom, namesFrom};
-ghost use Rattle.planner.specs.Plan.{isOpen, datePlan, listingPlan, printPlan, tradePlan, linePlan, readPlan, planOf, SoundListing, SoundTrade, SoundLine};
+ghost use Rattle.planner.specs.Plan.{datePlan, listingPlan, printPlan, tradePlan, cancelOf, cancelPlan, correctionOf, correctionPlan, linePlan, readPlan, planOf, SoundListing, SoundTrade, SoundCorrection, SoundLine};
 
 // What an accepted trade prints, and the security after it.
 pub struct TradePlan {
@@ -27,6 +28,30 @@ pub struct TradePlan {
     pub network: u64,
     pub unit: u64,
     pub temporary: bool,
+    pub prints: bool,
+    pub full: bool,
+    pub shows: bool,
+    pub after: Security,
+}
+
+// What an accepted cancel or error prints.
+pub struct CancelPlan {
+    pub error: bool,
+    pub place: usize,
+    pub side: Side,
+    pub network: u64,
+    pub unit: u64,
+    pub full: bool,
+    pub shows: bool,
+}
+
+// What an accepted correction prints, and the security after it.
+pub struct CorrectionPlan {
+    pub place: usize,
+    pub original: Side,
+    pub correcting: Side,
+    pub network: u64,
+    pub unit: u64,
     pub prints: bool,
     pub full: bool,
     pub shows: bool,
@@ -42,6 +67,8 @@ pub enum Plan {
     Level(u64),
     Step(u64),
     Print(TradePlan),
+    Cancel(CancelPlan),
+    Correct(CorrectionPlan),
 }
 
 // ---- the plan
@@ -55,9 +82,9 @@ fn is_shaped(line: &[u8]) -> bool
     field::is_printable_text(line)
 }
 
-// The kinds that are open.
-fn is_open(c: u8) -> bool
-    ensures { λ r. ⌜ r ≡ isOpen c ⌝ }
+// The nine kinds.
+fn is_kind(c: u8) -> bool
+    ensures { λ r. ⌜ r ≡ isKind c ⌝ }
 {
     match c {
         b'D' => true,
@@ -66,6 +93,9 @@ fn is_open(c: u8) -> bool
         b'V' => true,
         b'P' => true,
         b'T' => true,
+        b'X' => true,
+        b'E' => true,
+        b'C' => true,
         _ => false,
     }
 }
@@ -208,6 +238,108 @@ fn trade_at(st: Settings, table: &[u64; 5632], t: Trade) -> Plan
     trade_plan(st, s, t)
 }
 
+fn cancel_of(error: bool, st: Settings, s: Security, t: Trade) -> CancelPlan
+    requires { ⌜ SoundTrade t ⌝ }
+    ensures { λ r. ⌜ r ≡ cancelOf error st s t ⌝ }
+{
+    let x = t.side;
+    CancelPlan {
+        error: error,
+        place: (t.security - 1) as usize,
+        side: x,
+        network: s.network,
+        unit: s.unit,
+        full: correcting::cancel_full(st, s, x),
+        shows: correcting::cancel_shows(st, x),
+    }
+}
+
+fn cancel_plan(error: bool, st: Settings, s: Security, t: Trade) -> Plan
+    requires { ⌜ SoundTrade t ⌝ }
+    ensures { λ r. ⌜ r ≡ cancelPlan error st s t ⌝ }
+{
+    if !qualifying::is_entered(s) {
+        return Plan::Stop(Refusal::NotEntered);
+    }
+    if !is_lawful(s, t) {
+        return Plan::Stop(Refusal::Conditions);
+    }
+    if !t.matched {
+        return Plan::Stop(Refusal::Unmatched);
+    }
+    Plan::Cancel(cancel_of(error, st, s, t))
+}
+
+fn cancel_at(error: bool, st: Settings, table: &[u64; 5632], t: Trade) -> Plan
+    requires { ⌜ SoundTrade t ⌝ }
+    ensures { λ r. ⌜ r ≡ cancelPlan error st (row (now (table .entry)) (t .security - 1)) t ⌝ }
+{
+    let place = (t.security - 1) as usize;
+    let s = table::load(table, place);
+    cancel_plan(error, st, s, t)
+}
+
+fn correction_of(st: Settings, s: Security, c: Correction) -> CorrectionPlan
+    requires { ⌜ SoundCorrection c ⌝ }
+    ensures { λ r. ⌜ r ≡ correctionOf st s c ⌝ }
+{
+    let x = c.original;
+    let y = c.correcting;
+    CorrectionPlan {
+        place: (c.security - 1) as usize,
+        original: x,
+        correcting: y,
+        network: s.network,
+        unit: s.unit,
+        prints: correcting::prints_correction(st, s, x, y),
+        full: correcting::correction_full(st, s, x, y),
+        shows: correcting::correction_shows(st, x, y),
+        after: correcting::after_correction(s, y),
+    }
+}
+
+// Letters lawful by themselves, and on the security's network, on both sides.
+fn are_lawful(s: Security, c: Correction) -> bool
+    ensures { λ r. ⌜ r ≡ (c .lawful && (onNetwork (s .network) (c .original .letters) && onNetwork (s .network) (c .correcting .letters))) ⌝ }
+{
+    let x = c.original;
+    let y = c.correcting;
+    let letters = x.letters;
+    let others = y.letters;
+    if !c.lawful {
+        return false;
+    }
+    if !qualifying::on_network(s.network, letters) {
+        return false;
+    }
+    qualifying::on_network(s.network, others)
+}
+
+fn correction_plan(st: Settings, s: Security, c: Correction) -> Plan
+    requires { ⌜ SoundCorrection c ⌝ }
+    ensures { λ r. ⌜ r ≡ correctionPlan st s c ⌝ }
+{
+    if !qualifying::is_entered(s) {
+        return Plan::Stop(Refusal::NotEntered);
+    }
+    if !are_lawful(s, c) {
+        return Plan::Stop(Refusal::Conditions);
+    }
+    if !c.matched {
+        return Plan::Stop(Refusal::Unmatched);
+    }
+    Plan::Correct(correction_of(st, s, c))
+}
+
+fn correction_at(st: Settings, table: &[u64; 5632], c: Correction) -> Plan
+    requires { ⌜ SoundCorrection c ⌝ }
+    ensures { λ r. ⌜ r ≡ correctionPlan st (row (now (table .entry)) (c .security - 1)) c ⌝ }
+{
+    let place = (c.security - 1) as usize;
+    let s = table::load(table, place);
+    correction_plan(st, s, c)
+}
+
 fn line_plan(st: Settings, table: &[u64; 5632], names: &[u8; 9728], name: &[u8], l: Line) -> Plan
     requires { ⌜ SoundLine l × (length (now name) ≡ 19) ⌝ }
     ensures { λ r. ⌜ r ≡ linePlan st (now (table .entry)) (now (names .entry)) (now (name .entry)) l ⌝ }
@@ -219,13 +351,13 @@ fn line_plan(st: Settings, table: &[u64; 5632], names: &[u8; 9728], name: &[u8],
         Line::Leveled(n) => Plan::Level(n),
         Line::Stepped(n) => Plan::Step(n),
         Line::Traded(t) => trade_at(st, table, t),
-        Line::Cancelled(_) => Plan::Stop(Refusal::Kind),
-        Line::Erred(_) => Plan::Stop(Refusal::Kind),
-        Line::Corrected(_) => Plan::Stop(Refusal::Kind),
+        Line::Cancelled(t) => cancel_at(false, st, table, t),
+        Line::Erred(t) => cancel_at(true, st, table, t),
+        Line::Corrected(c) => correction_at(st, table, c),
     }
 }
 
-// A line of an open kind, by its fields: refusals 4 and 5, then its own.
+// A line of a known kind, by its fields: refusals 4 and 5, then its own.
 fn read_plan(st: Settings, table: &[u64; 5632], names: &[u8; 9728], line: &[u8]) -> Plan
     requires { ⌜ length (now line) ≡ 100 ⌝ }
     ensures { λ r. ⌜ r ≡ readPlan st (now (table .entry)) (now (names .entry)) (now (line .entry)) ⌝ }
@@ -249,7 +381,7 @@ pub fn plan_line(st: Settings, table: &[u64; 5632], names: &[u8; 9728], line: &[
         return Plan::Stop(Refusal::Shape);
     }
     let kind = line[0];
-    if !is_open(kind) {
+    if !is_kind(kind) {
         return Plan::Stop(Refusal::Kind);
     }
     if is_undated(st, kind) {

@@ -5,3 +5,4 @@ pub mod Prints
 pub mod Decoded
 pub mod Lists
 pub mod WholeDay
+pub mod Needed

@@ -23,9 +23,11 @@ use Rattle.rules.specs.declared.Refusal.{Refusal}
 use Rattle.decoder.specs.Carried.{Carried, carriedOf}
 use Rattle.decoder.specs.Decode.{Names}
 use Rattle.named.proofs.Root.{false-true}
+use Rattle.calls.specs.Run.{State, Sized, Lent, Run, callOf, tapeFrom}
+use Rattle.calls.proofs.Runs.{fresh-run}
 use Rattle.wholeday.specs.Kept.{atPlace, named, Kept, Later}
 use Rattle.wholeday.specs.Owed.{tape, dayAfter, decodeAll}
-use Rattle.wholeday.specs.Claim.{accepts, acceptedOf, dateLines, securityLines, Alike, WholeDay}
+use Rattle.wholeday.specs.Claim.{accepts, acceptedOf, dateLines, securityLines, Alike, WholeDay, callsOf, RunsAlike, WholeDayRuns}
 use Rattle.wholeday.proofs.Accepted.{dated-or-date}
 use Rattle.wholeday.proofs.Kept.{kept-cleared, no-security}
 use Rattle.wholeday.proofs.Decoded.{decoded}
@@ -219,3 +221,16 @@ whole-day cs ks a =
     ∙ (ap (λ (d : Carried). decodeAll ((dayAfter (cleared (y .number)) (y .rest)) .names) (length (tape fresh cs)) d (tape fresh cs)) (same-start (x .number) (y .number))
     ∙ (ap (λ (t : List ℕ). decodeAll ((dayAfter (cleared (y .number)) (y .rest)) .names) (length t) (carriedOf (cleared (y .number))) t) (a .same-tape)
     ∙ sym (facts-found ks y))))
+
+-- ---- and so of two runs of the engine
+
+joined : (cs : List Lent) (day : Day) → tapeFrom day cs ≡ tape day (callsOf cs)
+unfolding tapeFrom tape
+joined [] day = refl
+joined (c ∷ cs) day = ap (λ (t : List ℕ). tapeOf day (callOf c) ++ t) (joined cs (after day (callOf c)))
+
+pub whole-day-runs : WholeDayRuns
+whole-day-runs s e t f cs ks out put a z r b y q h =
+    let x = fresh-run r a z .0 ∙ joined cs fresh in
+    let w = fresh-run q b y .0 ∙ joined ks fresh in
+    whole-day (callsOf cs) (callsOf ks) (record { date = h .date; one-date = h .one-date; same-date = h .same-date; same-securities = h .same-securities; premise = h .premise; other-premise = h .other-premise; same-tape = sym x ∙ (h .same-tape ∙ w) })

@@ -2,14 +2,15 @@
 use Prim.Native.Nat.{ℕ}
 use mathlib.Core.Path.{_≡_}
 use mathlib.Core.Bool.{Bool, true, false, _&&_}
-use mathlib.Core.List.{List, [], _∷_, _++_}
+use mathlib.Core.List.{List, [], _∷_, _++_, map}
 use mathlib.Core.Option.{Option, none, some}
 use lib.Dec.{eqb}
 use Rattle.text.specs.Pick.{pick, member}
 use Rattle.rules.specs.Columns.{column}
-use Rattle.rules.specs.Day.{Day, Call, fresh, refusalOf, after}
+use Rattle.rules.specs.Day.{Day, Call, opened, fresh, refusalOf, after}
 use Rattle.rules.specs.Shown.{shown}
 use Rattle.rules.specs.Premise.{Premise}
+use Rattle.calls.specs.Run.{State, Sized, Lent, Run, callOf}
 use Rattle.wholeday.specs.Owed.{tape}
 
 -- the call's line is accepted
@@ -41,3 +42,25 @@ pub record Alike (cs ks : List Call) : Type 0 where
 -- the claim
 abbrev pub WholeDay : Type 0
 WholeDay = (cs ks : List Call) → Alike cs ks → shown fresh cs ≡ shown fresh ks
+
+-- ---- the same of two runs of the engine: each from a fresh state with tables of any contents, each call with its own line and its own lent tape
+
+abbrev pub callsOf : List Lent → List Call
+callsOf cs = map callOf cs
+
+pub record RunsAlike (cs ks : List Lent) (out put : List ℕ) : Type 0 where
+  pub date : List ℕ
+  pub one-date : dateLines (callsOf cs) ≡ date ∷ []
+  pub same-date : dateLines (callsOf ks) ≡ date ∷ []
+  pub same-securities : (line : List ℕ) → member line (securityLines (callsOf cs)) ≡ member line (securityLines (callsOf ks))
+  pub premise : Premise fresh (callsOf cs)
+  pub other-premise : Premise fresh (callsOf ks)
+  pub same-tape : out ≡ put
+
+abbrev pub WholeDayRuns : Type 0
+WholeDayRuns =
+    (s e t f : State) (cs ks : List Lent) (out put : List ℕ)
+    → s .settings ≡ opened 0 → Sized s → Run s cs e out
+    → t .settings ≡ opened 0 → Sized t → Run t ks f put
+    → RunsAlike cs ks out put
+    → shown fresh (callsOf cs) ≡ shown fresh (callsOf ks)

@@ -1,5 +1,3 @@
-use Rattle.text.proofs.Tests.{picks}
-use Rattle.engine.specs.Taken.{fittedOf}
 use Rattle.engine.proofs.Steps.{told-short, told-fits}
 use borrow.Author.Needs.{needs}
 use Rattle.engine.proofs.fitted.Statement.{statement}

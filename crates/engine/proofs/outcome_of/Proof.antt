@@ -24,6 +24,12 @@ enum-told-5 c = search needs
 enum-told-6 : tie.Need-enum-told-6
 enum-told-6 c = search needs
 
+enum-told-7 : tie.Need-enum-told-7
+enum-told-7 c = search needs
+
+enum-told-8 : tie.Need-enum-told-8
+enum-told-8 c = search needs
+
 returns : tie.Need-returns
 returns c = search outcomes
 
@@ -45,6 +51,12 @@ returns-6 c = search outcomes
 returns-7 : tie.Need-returns-7
 returns-7 c = search outcomes
 
+returns-8 : tie.Need-returns-8
+returns-8 c = search outcomes
+
+returns-9 : tie.Need-returns-9
+returns-9 c = search outcomes
+
 pub outcome-of-spec : {M : Type 1} → statement M
 outcome-of-spec =
     tie.close
@@ -56,10 +68,14 @@ outcome-of-spec =
     enum-told-4
     enum-told-5
     enum-told-6
+    enum-told-7
+    enum-told-8
     returns
     returns-2
     returns-3
     returns-4
     returns-5
     returns-6
-    returns-7)
+    returns-7
+    returns-8
+    returns-9)

@@ -27,6 +27,12 @@ enum-known-p-4 c = search needs
 enum-told-3 : tie.Need-enum-told-3
 enum-told-3 c = search needs
 
+enum-told-4 : tie.Need-enum-told-4
+enum-told-4 c = search needs
+
+enum-told-5 : tie.Need-enum-told-5
+enum-told-5 c = search needs
+
 returns : tie.Need-returns
 returns c = search settings
 
@@ -48,6 +54,12 @@ returns-6 c = search settings
 returns-7 : tie.Need-returns-7
 returns-7 c = search settings
 
+returns-8 : tie.Need-returns-8
+returns-8 c = search settings
+
+returns-9 : tie.Need-returns-9
+returns-9 c = search settings
+
 pub settings-after-spec : {M : Type 1} → statement M
 settings-after-spec =
     tie.close
@@ -60,10 +72,14 @@ settings-after-spec =
     enum-known-p-3
     enum-known-p-4
     enum-told-3
+    enum-told-4
+    enum-told-5
     returns
     returns-2
     returns-3
     returns-4
     returns-5
     returns-6
-    returns-7)
+    returns-7
+    returns-8
+    returns-9)

@@ -1,5 +1,5 @@
 use Rattle.engine.proofs.Sound.{sound-asked}
-use Rattle.engine.proofs.Steps.{front-length, fitted-sound, fitted-room, taken}
+use Rattle.engine.proofs.Steps.{front-length, front-short, fitted-sound, fitted-room, taken}
 use borrow.Author.Needs.{needs}
 use Rattle.engine.proofs.take_line.Statement.{statement}
 use Rattle.engine.proofs.take_line.Tie as tie
@@ -20,7 +20,7 @@ slice-aggregate-fitted : tie.Need-slice-aggregate-fitted
 slice-aggregate-fitted c = search front-length
 
 fitted-requires : tie.Need-fitted-requires
-fitted-requires c κs = search sound-asked
+fitted-requires c κs = (search sound-asked, search front-short)
 
 array-share-prefix-buffer-2 : tie.Need-array-share-prefix-buffer-2
 array-share-prefix-buffer-2 c = search needs

@@ -1,5 +1,5 @@
 use Rattle.text.proofs.Writing.{length-named}
-use Rattle.engine.proofs.Arms.{texts, quiet, sound-print}
+use Rattle.engine.proofs.Arms.{texts, quiet, sound-print, sound-cancel, sound-correct}
 use borrow.Author.Needs.{needs}
 use Rattle.engine.proofs.text_length.Statement.{statement}
 use Rattle.engine.proofs.text_length.Tie as tie
@@ -37,6 +37,18 @@ enum-known-p-4 c = search needs
 print-length-requires : tie.Need-print-length-requires
 print-length-requires c κs = search sound-print
 
+enum-known-p-5 : tie.Need-enum-known-p-5
+enum-known-p-5 c = search needs
+
+cancel-length-requires : tie.Need-cancel-length-requires
+cancel-length-requires c κs = search sound-cancel
+
+enum-known-p-6 : tie.Need-enum-known-p-6
+enum-known-p-6 c = search needs
+
+correction-length-requires : tie.Need-correction-length-requires
+correction-length-requires c κs = (search sound-correct, search needs)
+
 returns : tie.Need-returns
 returns c = search (quiet, length-named, texts)
 
@@ -58,6 +70,12 @@ returns-6 c = search (quiet, length-named, texts)
 returns-7 : tie.Need-returns-7
 returns-7 c = search (quiet, length-named, texts)
 
+returns-8 : tie.Need-returns-8
+returns-8 c = search (quiet, length-named, texts)
+
+returns-9 : tie.Need-returns-9
+returns-9 c = search (quiet, length-named, texts)
+
 pub text-length-spec : {M : Type 1} → statement M
 text-length-spec =
     tie.close
@@ -73,10 +91,16 @@ text-length-spec =
     step-length-requires
     enum-known-p-4
     print-length-requires
+    enum-known-p-5
+    cancel-length-requires
+    enum-known-p-6
+    correction-length-requires
     returns
     returns-2
     returns-3
     returns-4
     returns-5
     returns-6
-    returns-7)
+    returns-7
+    returns-8
+    returns-9)

@@ -40,6 +40,12 @@ enum-told-5 c = search needs
 enum-told-6 : tie.Need-enum-told-6
 enum-told-6 c = search needs
 
+enum-told-7 : tie.Need-enum-told-7
+enum-told-7 c = search needs
+
+enum-told-8 : tie.Need-enum-told-8
+enum-told-8 c = search needs
+
 returns : tie.Need-returns
 returns c = search named-after
 
@@ -61,6 +67,12 @@ returns-6 c = search named-after
 returns-7 : tie.Need-returns-7
 returns-7 c = search named-after
 
+returns-8 : tie.Need-returns-8
+returns-8 c = search named-after
+
+returns-9 : tie.Need-returns-9
+returns-9 c = search named-after
+
 pub update-names-spec : {M : Type 1} → statement M
 update-names-spec =
     tie.close
@@ -77,10 +89,14 @@ update-names-spec =
     enum-told-4
     enum-told-5
     enum-told-6
+    enum-told-7
+    enum-told-8
     returns
     returns-2
     returns-3
     returns-4
     returns-5
     returns-6
-    returns-7)
+    returns-7
+    returns-8
+    returns-9)

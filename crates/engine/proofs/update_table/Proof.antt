@@ -1,4 +1,4 @@
-use Rattle.engine.proofs.Arms.{tables, place-print, place-enter}
+use Rattle.engine.proofs.Arms.{tables, place-print, place-enter, place-correct}
 use borrow.Author.Needs.{needs}
 use Rattle.engine.proofs.update_table.Statement.{statement}
 use Rattle.engine.proofs.update_table.Tie as tie
@@ -16,7 +16,7 @@ enum-known-p : tie.Need-enum-known-p
 enum-known-p c = search needs
 
 store-requires : tie.Need-store-requires
-store-requires c κs = search (place-print, place-enter)
+store-requires c κs = search (place-print, place-enter, place-correct)
 
 enum-told-3 : tie.Need-enum-told-3
 enum-told-3 c = search needs
@@ -31,7 +31,16 @@ enum-known-p-2 : tie.Need-enum-known-p-2
 enum-known-p-2 c = search needs
 
 store-requires-2 : tie.Need-store-requires-2
-store-requires-2 c κs = search (place-print, place-enter)
+store-requires-2 c κs = search (place-print, place-enter, place-correct)
+
+enum-told-6 : tie.Need-enum-told-6
+enum-told-6 c = search needs
+
+enum-known-p-3 : tie.Need-enum-known-p-3
+enum-known-p-3 c = search needs
+
+store-requires-3 : tie.Need-store-requires-3
+store-requires-3 c κs = search (place-print, place-enter, place-correct)
 
 returns : tie.Need-returns
 returns c = search tables
@@ -54,6 +63,12 @@ returns-6 c = search tables
 returns-7 : tie.Need-returns-7
 returns-7 c = search tables
 
+returns-8 : tie.Need-returns-8
+returns-8 c = search tables
+
+returns-9 : tie.Need-returns-9
+returns-9 c = search tables
+
 pub update-table-spec : {M : Type 1} → statement M
 update-table-spec =
     tie.close
@@ -68,10 +83,15 @@ update-table-spec =
     enum-told-5
     enum-known-p-2
     store-requires-2
+    enum-told-6
+    enum-known-p-3
+    store-requires-3
     returns
     returns-2
     returns-3
     returns-4
     returns-5
     returns-6
-    returns-7)
+    returns-7
+    returns-8
+    returns-9)

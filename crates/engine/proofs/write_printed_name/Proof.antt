@@ -1,5 +1,5 @@
 use Rattle.text.proofs.Writing.{named}
-use Rattle.engine.proofs.Arms.{printed-names, place-print}
+use Rattle.engine.proofs.Arms.{printed-names, place-print, place-cancel, place-correct}
 use borrow.Author.Needs.{needs}
 use Rattle.engine.proofs.write_printed_name.Statement.{statement}
 use Rattle.engine.proofs.write_printed_name.Tie as tie
@@ -26,7 +26,19 @@ enum-known-p : tie.Need-enum-known-p
 enum-known-p c = search needs
 
 write-name-requires : tie.Need-write-name-requires
-write-name-requires c κs = (search place-print, search needs)
+write-name-requires c κs = (search (place-print, place-cancel, place-correct), search needs)
+
+enum-known-p-2 : tie.Need-enum-known-p-2
+enum-known-p-2 c = search needs
+
+write-name-requires-2 : tie.Need-write-name-requires-2
+write-name-requires-2 c κs = (search (place-print, place-cancel, place-correct), search needs)
+
+enum-known-p-3 : tie.Need-enum-known-p-3
+enum-known-p-3 c = search needs
+
+write-name-requires-3 : tie.Need-write-name-requires-3
+write-name-requires-3 c κs = (search (place-print, place-cancel, place-correct), search needs)
 
 returns : tie.Need-returns
 returns c = search (named, printed-names)
@@ -52,6 +64,18 @@ same-length c = search needs
 returns-7 : tie.Need-returns-7
 returns-7 c = search (named, printed-names)
 
+same-length-2 : tie.Need-same-length-2
+same-length-2 c = search needs
+
+returns-8 : tie.Need-returns-8
+returns-8 c = search (named, printed-names)
+
+same-length-3 : tie.Need-same-length-3
+same-length-3 c = search needs
+
+returns-9 : tie.Need-returns-9
+returns-9 c = search (named, printed-names)
+
 pub write-printed-name-spec : {M : Type 1} → statement M
 write-printed-name-spec =
     tie.close
@@ -64,6 +88,10 @@ write-printed-name-spec =
     enum-told-6
     enum-known-p
     write-name-requires
+    enum-known-p-2
+    write-name-requires-2
+    enum-known-p-3
+    write-name-requires-3
     returns
     returns-2
     returns-3
@@ -71,4 +99,8 @@ write-printed-name-spec =
     returns-5
     returns-6
     same-length
-    returns-7)
+    returns-7
+    same-length-2
+    returns-8
+    same-length-3
+    returns-9)

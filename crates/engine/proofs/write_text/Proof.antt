@@ -1,5 +1,5 @@
 use Rattle.text.proofs.Writing.{named, fits}
-use Rattle.engine.proofs.Arms.{texts, quiet, sound-print}
+use Rattle.engine.proofs.Arms.{texts, quiet, sound-print, sound-cancel, sound-correct}
 use borrow.Author.Needs.{needs}
 use Rattle.engine.proofs.write_text.Statement.{statement}
 use Rattle.engine.proofs.write_text.Tie as tie
@@ -37,6 +37,18 @@ enum-known-p-4 c = search needs
 write-print-requires : tie.Need-write-print-requires
 write-print-requires c κs = (search sound-print, search (fits, texts))
 
+enum-known-p-5 : tie.Need-enum-known-p-5
+enum-known-p-5 c = search needs
+
+write-cancel-requires : tie.Need-write-cancel-requires
+write-cancel-requires c κs = (search sound-cancel, search (fits, texts))
+
+enum-known-p-6 : tie.Need-enum-known-p-6
+enum-known-p-6 c = search needs
+
+write-correction-requires : tie.Need-write-correction-requires
+write-correction-requires c κs = (search sound-correct, search (fits, texts))
+
 returns : tie.Need-returns
 returns c = search (quiet, named, texts)
 
@@ -70,6 +82,18 @@ same-length-4 c = search needs
 returns-7 : tie.Need-returns-7
 returns-7 c = search (quiet, named, texts)
 
+same-length-5 : tie.Need-same-length-5
+same-length-5 c = search needs
+
+returns-8 : tie.Need-returns-8
+returns-8 c = search (quiet, named, texts)
+
+same-length-6 : tie.Need-same-length-6
+same-length-6 c = search needs
+
+returns-9 : tie.Need-returns-9
+returns-9 c = search (quiet, named, texts)
+
 pub write-text-spec : {M : Type 1} → statement M
 write-text-spec =
     tie.close
@@ -85,6 +109,10 @@ write-text-spec =
     write-step-requires
     enum-known-p-4
     write-print-requires
+    enum-known-p-5
+    write-cancel-requires
+    enum-known-p-6
+    write-correction-requires
     returns
     returns-2
     returns-3
@@ -95,4 +123,8 @@ write-text-spec =
     same-length-3
     returns-6
     same-length-4
-    returns-7)
+    returns-7
+    same-length-5
+    returns-8
+    same-length-6
+    returns-9)

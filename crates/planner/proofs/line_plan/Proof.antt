@@ -1,4 +1,4 @@
-use Rattle.planner.proofs.Plans.{kinds, sound-listed, sound-traded}
+use Rattle.planner.proofs.Plans.{kinds, sound-listed, sound-traded, sound-cancelled, sound-erred, sound-corrected}
 use borrow.Author.Needs.{needs}
 use Rattle.planner.proofs.line_plan.Statement.{statement}
 use Rattle.planner.proofs.line_plan.Tie as tie
@@ -30,14 +30,23 @@ enum-known-l-6 c = search needs
 trade-at-requires : tie.Need-trade-at-requires
 trade-at-requires c κs = search sound-traded
 
-enum-told : tie.Need-enum-told
-enum-told c = search needs
+enum-known-l-7 : tie.Need-enum-known-l-7
+enum-known-l-7 c = search needs
 
-enum-told-2 : tie.Need-enum-told-2
-enum-told-2 c = search needs
+cancel-at-requires : tie.Need-cancel-at-requires
+cancel-at-requires c κs = search sound-cancelled
 
-enum-told-3 : tie.Need-enum-told-3
-enum-told-3 c = search needs
+enum-known-l-8 : tie.Need-enum-known-l-8
+enum-known-l-8 c = search needs
+
+cancel-at-requires-2 : tie.Need-cancel-at-requires-2
+cancel-at-requires-2 c κs = search sound-erred
+
+enum-known-l-9 : tie.Need-enum-known-l-9
+enum-known-l-9 c = search needs
+
+correction-at-requires : tie.Need-correction-at-requires
+correction-at-requires c κs = search sound-corrected
 
 returns : tie.Need-returns
 returns c = search kinds
@@ -79,9 +88,12 @@ line-plan-spec =
     enum-known-l-5
     enum-known-l-6
     trade-at-requires
-    enum-told
-    enum-told-2
-    enum-told-3
+    enum-known-l-7
+    cancel-at-requires
+    enum-known-l-8
+    cancel-at-requires-2
+    enum-known-l-9
+    correction-at-requires
     returns
     returns-2
     returns-3

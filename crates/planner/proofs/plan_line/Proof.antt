@@ -15,8 +15,8 @@ returns c = search answers depth 9
 shared-slice-read-kind : tie.Need-shared-slice-read-kind
 shared-slice-read-kind c = search shaped-some
 
-is-open-requires : tie.Need-is-open-requires
-is-open-requires c κs = search needs
+is-kind-requires : tie.Need-is-kind-requires
+is-kind-requires c κs = search needs
 
 returns-2 : tie.Need-returns-2
 unfolding planOf
@@ -43,7 +43,7 @@ plan-line-spec =
     is-shaped-requires
     returns
     shared-slice-read-kind
-    is-open-requires
+    is-kind-requires
     returns-2
     is-undated-requires
     returns-3
