@@ -61,7 +61,7 @@ lineTaken room line f = carried line f (asked (f .settings) (f .table) (f .names
 
 -- ---- many
 
--- 200 bytes are left for a print, which is shorter, and 14 for a refusal, and reading has not ended: `n` bytes are on a tape of `tape`, `k` in refusals of `refusals`
+-- 200 bytes are left of the tape and 14 of the refusals, and reading has not ended: `n` bytes are on a tape of `tape`, `k` in refusals of `refusals`
 unfoldable pub roomLeft : ℕ → ℕ → ℕ → ℕ → ℕ → Bool
 roomLeft tape refusals n k number = leb 200 (tape - n) && (leb 14 (refusals - k) && leb number 9999999999)
 

@@ -1,6 +1,5 @@
 // Lines: a block of input is split at its line feeds, each line is handed to the engine as a part of the block, prints are
 // gathered in one lent block and refusals in another (document 01, "Shown facts and the whole day").
-use engine::Answer;
 use engine::Outcome;
 use rules::Refusal;
 use rules::Settings;
@@ -24,7 +23,7 @@ pub struct Fed {
     pub refusals: usize,
 }
 
-// No line feed stands in the 32 bytes from `from` on: 1 where one may, so that the compiler looks at many bytes at once.
+// 0 where no line feed stands in the 32 bytes from `from` on. It looks at all of them, so that they are compared at once.
 fn feed_near(block: &[u8], from: usize) -> u8
     requires { ⌜ from + 32 ≤ length (now block) ⌝ }
     ensures { λ r. ⌜ (r ≡ 0 → lineEnd (now (block .entry)) (from + 32) ≡ lineEnd (now (block .entry)) from) ⌝ }
