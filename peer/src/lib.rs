@@ -1,0 +1,16 @@
+//! The day engine of document 01 in plain Rust: independent evidence for the tape, and a measure of speed.
+//! One module a section of the document. No allocation per line.
+
+pub mod announcements;
+pub mod conditions;
+pub mod corrections;
+pub mod day;
+pub mod facts;
+pub mod lines;
+pub mod names;
+pub mod price;
+pub mod program;
+pub mod refusals;
+pub mod tape;
+pub mod trades;
+pub mod volume;

@@ -1,0 +1,104 @@
+//! Names (001, 3.2, appendices C, D): refusal 8, and the names as they stand on the tape.
+
+use crate::lines::{Entry, Network};
+use crate::refusals::{ensure, Refusal};
+use crate::tape::Tape;
+
+/// At most 6 + 6 + 5 + 3 bytes; the bytes after `len` are 0.
+#[derive(Clone, Copy, PartialEq, Eq)]
+pub struct Name {
+    text: [u8; 24],
+    len: u8,
+}
+
+impl Name {
+    pub const NONE: Name = Name { text: [0; 24], len: 0 };
+
+    fn push(&mut self, text: &[u8]) {
+        let len = usize::from(self.len);
+        self.text[len..len + text.len()].copy_from_slice(text);
+        self.len += text.len() as u8;
+    }
+
+    /// A part after the root, with its letter dot; a blank one adds nothing.
+    fn push_part(&mut self, part: &[u8]) {
+        match part.first() {
+            None => return,
+            Some(b'p' | b'r' | b'w') => {}
+            Some(_) => self.push(b"."),
+        }
+        self.push(part);
+    }
+
+    #[inline(always)]
+    pub fn write(&self, tape: &mut Tape) {
+        tape.start_of(&self.text, usize::from(self.len));
+    }
+}
+
+/// A security's name with and without its temporary suffix; the same if that is blank.
+#[derive(Clone, Copy)]
+pub struct Names {
+    pub plain: Name,
+    pub temporary: Name,
+}
+
+impl Names {
+    pub const NONE: Names = Names { plain: Name::NONE, temporary: Name::NONE };
+
+    /// Refusal 8 if a part is not a listed text.
+    pub fn new(entry: &Entry) -> Result<Names, Refusal> {
+        let root = trimmed(&entry.root);
+        let suffix = trimmed(&entry.suffix);
+        let temporary = trimmed(&entry.temporary);
+        let appendage = trimmed(&entry.appendage);
+        let own: &[u8] = match entry.network {
+            Network::A => b"BC",
+            Network::B => b"DL",
+        };
+        let lawful = !matches!(root, b"SHRS" | b"RULE" | b"SELLER")
+            && (suffix.is_empty() || is_suffix(suffix))
+            && matches!(temporary, b"" | b"XD" | b"XDIS" | b"Xr" | b"N" | b"XI")
+            && (appendage.is_empty() || appendage == own);
+        ensure(lawful, Refusal::Unlisted)?;
+        let mut names = Names::NONE;
+        for (name, temporary) in [(&mut names.plain, &b""[..]), (&mut names.temporary, temporary)] {
+            name.push(root);
+            name.push_part(suffix);
+            name.push_part(temporary);
+            name.push_part(appendage);
+        }
+        Ok(names)
+    }
+
+    /// Whether there is a temporary suffix.
+    pub fn differ(&self) -> bool {
+        self.plain.len != self.temporary.len
+    }
+
+    /// Refusal 9 asks this of two securities.
+    pub fn share_one(&self, other: &Names) -> bool {
+        [self.plain, self.temporary].iter().any(|name| *name == other.plain || *name == other.temporary)
+    }
+}
+
+/// A field without the blanks at its end.
+fn trimmed(field: &[u8]) -> &[u8] {
+    let len = field.iter().rposition(|&byte| byte != b' ').map_or(0, |last| last + 1);
+    &field[..len]
+}
+
+const SUFFIXES: [&[u8]; 42] = [
+    b"A", b"A.CL", b"A.CV", b"Aw", b"A.N", b"B", b"B.CL", b"B.CV", b"Bw", b"B.N", b"CL", b"CT", b"CV", b"CVR",
+    b"CV.CL", b"EC", b"F.N", b"PP", b"PT.CL", b"SC", b"SP", b"SD", b"TT", b"U", b"VR", b"WD", b"WS", b"W.WS",
+    b"WS.A", b"WS.B", b"WS.N", b"WSw", b"XW", b"r", b"rw", b"w", b"p", b"pw", b"pCL", b"pCV", b"pCV.CL", b"pWD",
+];
+
+fn is_suffix(text: &[u8]) -> bool {
+    SUFFIXES.contains(&text)
+        || match text {
+            [b'p', b'C', b'A'..=b'K' | b'M'..=b'S'] => true,
+            [b'p', b'A'..=b'Z', rest @ ..] => matches!(rest, b"" | b".CV" | b".CL" | b"w"),
+            _ => false,
+        }
+}

@@ -1,0 +1,184 @@
+//! The day program: lines from a stream, the tape and the refusals to two others, in blocks.
+
+use std::fs::File;
+use std::io::{self, Read, Write};
+use std::os::fd::AsFd;
+
+use crate::day::Day;
+use crate::facts::Facts;
+use crate::lines::Line;
+use crate::refusals::Refusal;
+use crate::tape::{Tape, ROOM};
+
+const BLOCK: usize = 256 * 1024;
+/// Reading ends after this line.
+const LAST_LINE: u64 = 9_999_999_999;
+
+/// Cuts a stream at line feeds. A line over 100 bytes may come shortened, still over 100.
+struct Lines<R> {
+    input: R,
+    block: Vec<u8>,
+    from: usize,
+    to: usize,
+    ended: bool,
+}
+
+impl<R: Read> Lines<R> {
+    fn new(input: R) -> Self {
+        Lines { input, block: vec![0; BLOCK], from: 0, to: 0, ended: false }
+    }
+
+    /// The next line: None at the end of the input, Some(None) if it is refused 1.
+    #[inline(always)]
+    fn next(&mut self) -> io::Result<Option<Option<Line<'_>>>> {
+        if self.to - self.from > 100 && self.block[self.from + 100] == b'\n' {
+            let from = self.from;
+            // 100 printable bytes hold no line feed.
+            if Line::new(&self.block[from..from + 100]).is_some() {
+                self.from += 101;
+                return Ok(Some(Line::new(&self.block[from..from + 100])));
+            }
+        }
+        self.next_slowly()
+    }
+
+    #[inline(never)]
+    fn next_slowly(&mut self) -> io::Result<Option<Option<Line<'_>>>> {
+        let mut searched = 0;
+        loop {
+            let rest = &self.block[self.from..self.to];
+            if let Some(len) = rest[searched..].iter().position(|&byte| byte == b'\n') {
+                let from = self.from;
+                let to = from + searched + len;
+                self.from = to + 1;
+                return Ok(Some(Line::new(&self.block[from..to])));
+            }
+            if self.ended {
+                let from = std::mem::replace(&mut self.from, self.to);
+                return Ok((from < self.to).then(|| Line::new(&self.block[from..self.to])));
+            }
+            // What remains of a line moves to the front; 101 bytes are enough to refuse it.
+            let keep = rest.len().min(101);
+            self.block.copy_within(self.from..self.from + keep, 0);
+            self.from = 0;
+            self.to = keep;
+            searched = keep;
+            let count = match self.input.read(&mut self.block[keep..]) {
+                Err(error) if error.kind() == io::ErrorKind::Interrupted => continue,
+                count => count?,
+            };
+            self.ended = count == 0;
+            self.to += count;
+        }
+    }
+}
+
+/// A stream written in blocks.
+struct Blocks<W> {
+    output: W,
+    block: Vec<u8>,
+    len: usize,
+}
+
+impl<W: Write> Blocks<W> {
+    fn new(output: W) -> Self {
+        Blocks { output, block: vec![0; BLOCK + ROOM], len: 0 }
+    }
+
+    /// The next ROOM bytes.
+    #[inline(always)]
+    fn room(&mut self) -> &mut [u8; ROOM] {
+        (&mut self.block[self.len..self.len + ROOM]).try_into().unwrap()
+    }
+
+    /// The room's first `len` bytes are written.
+    #[inline(always)]
+    fn advance(&mut self, len: usize) -> io::Result<()> {
+        self.len += len;
+        if self.len > BLOCK {
+            self.flush()?;
+        }
+        Ok(())
+    }
+
+    #[inline(never)]
+    fn flush(&mut self) -> io::Result<()> {
+        self.output.write_all(&self.block[..self.len])?;
+        self.len = 0;
+        Ok(())
+    }
+}
+
+/// Line number in columns 1-10, refusal in 11-13, a line feed.
+fn refusal_line(room: &mut [u8; ROOM], mut number: u64, refusal: Refusal) -> usize {
+    room[..14].copy_from_slice(b"              ");
+    let mut at = 10;
+    while number > 0 {
+        at -= 1;
+        room[at] = b'0' + (number % 10) as u8;
+        number /= 10;
+    }
+    let refusal = refusal as u8;
+    if refusal >= 10 {
+        room[11] = b'0' + refusal / 10;
+    }
+    room[12] = b'0' + refusal % 10;
+    room[13] = b'\n';
+    14
+}
+
+/// A day file to its tape and its refusals.
+pub fn day(input: impl Read, tape: impl Write, refused: impl Write) -> io::Result<()> {
+    let mut day = Day::new();
+    let mut lines = Lines::new(input);
+    let mut tape = Blocks::new(tape);
+    let mut refused = Blocks::new(refused);
+    let mut number = 0;
+    while number < LAST_LINE {
+        let Some(line) = lines.next()? else { break };
+        number += 1;
+        let mut print = Tape::new(tape.room());
+        let taken = match line {
+            Some(line) => day.take(line, &mut print),
+            None => Err(Refusal::Bytes),
+        };
+        match taken {
+            Ok(()) => {
+                let len = print.len();
+                tape.advance(len)?;
+            }
+            Err(refusal) => {
+                let len = refusal_line(refused.room(), number, refusal);
+                refused.advance(len)?;
+            }
+        }
+    }
+    tape.flush()?;
+    refused.flush()
+}
+
+/// A day file to the shown facts of its lines.
+pub fn facts(input: impl Read, mut output: impl Write) -> io::Result<()> {
+    let mut day = Day::new();
+    let mut lines = Lines::new(input);
+    let mut facts = Facts::default();
+    let mut number = 0;
+    while number < LAST_LINE {
+        let Some(line) = lines.next()? else { break };
+        number += 1;
+        if let Some(line) = line {
+            // A refused line shows nothing.
+            let _ = day.take(line, &mut facts);
+        }
+        if facts.text.len() >= BLOCK {
+            output.write_all(&facts.text)?;
+            facts.text.clear();
+        }
+    }
+    output.write_all(&facts.text)
+}
+
+/// A standard stream without the library's buffer.
+pub fn unbuffered(stream: impl AsFd) -> io::Result<File> {
+    Ok(File::from(stream.as_fd().try_clone_to_owned()?))
+}
