@@ -1,10 +1,12 @@
 //! The engine: a day's state, and one call for each line.
 
+use std::collections::HashSet;
+
 use crate::announcements;
 use crate::conditions::{check_companions, check_letters};
 use crate::corrections::{self, CancelKind};
 use crate::lines::{self, Line, Mode, Side};
-use crate::names::Names;
+use crate::names::{Name, Names};
 use crate::refusals::{ensure, Refusal};
 use crate::tape::{Tape, ROOM};
 use crate::trades::{self, Security, Shape};
@@ -19,11 +21,13 @@ pub struct Settings {
 
 const OPENING: Settings = Settings { mode: Mode::Normal, delete_level: 5_000, mpv_level: 1 };
 
-/// The state: the last accepted date (0 if none), settings, the table by security number.
+/// The state: the last accepted date (0 if none), settings, the table by security number and its names.
 pub struct Day {
     date: u32,
     settings: Settings,
     table: Box<[Security; 513]>,
+    /// Both names of every security of the table.
+    names: HashSet<Name>,
 }
 
 /// A printed trade.
@@ -114,7 +118,12 @@ impl Default for Day {
 impl Day {
     /// A fresh state: no D accepted yet.
     pub fn new() -> Self {
-        Day { date: 0, settings: OPENING, table: Box::new([Security::NONE; 513]) }
+        Day {
+            date: 0,
+            settings: OPENING,
+            table: Box::new([Security::NONE; 513]),
+            names: HashSet::with_capacity(1024),
+        }
     }
 
     /// One line of any bytes and any length; its print goes to the start of the lent tape, and its length comes back.
@@ -177,6 +186,7 @@ impl Day {
         self.date = date;
         self.settings = OPENING;
         self.table.fill(Security::NONE);
+        self.names.clear();
         Ok(())
     }
 
@@ -185,8 +195,10 @@ impl Day {
         let number = usize::from(entry.security);
         ensure(self.table[number].unit == 0, Refusal::InUse)?;
         let names = Names::new(&entry)?;
-        let taken = self.table.iter().any(|other| other.unit != 0 && names.share_one(&other.names));
+        let taken = self.names.contains(&names.plain) || self.names.contains(&names.temporary);
         ensure(!taken, Refusal::SameName)?;
+        self.names.insert(names.plain);
+        self.names.insert(names.temporary);
         self.table[number] = Security {
             names,
             unit: entry.unit,

@@ -1,7 +1,7 @@
 //! Day lines: the fields of the nine kinds, with refusals 1, 4 and 5. All of 4 is asked before 5.
 
 use crate::conditions::{letter, Letters};
-use crate::price::{price, Price};
+use crate::price::{price, Price, POWERS};
 use crate::refusals::{ensure, Refusal};
 
 /// 100 bytes of 32..126.
@@ -32,13 +32,22 @@ impl<'a> Line<'a> {
         self.0[from - 1..from - 1 + N].try_into().unwrap()
     }
 
-    /// Whether the columns from `from` to the end are blank.
+    /// Whether the columns from `from` to the end are blank; 16 at a time from the end.
     #[inline(always)]
     fn blank_from(&self, from: usize) -> bool {
-        self.0[from - 1..].iter().fold(0, |any, &byte| any | (byte ^ b' ')) == 0
+        let mut marks = 0;
+        let mut to = 100;
+        while to >= from + 15 {
+            marks |= u128::from_le_bytes(self.columns(to - 15)) ^ BLANKS;
+            to -= 16;
+        }
+        if to >= from {
+            marks |= self.right_justified(from, to) ^ BLANKS;
+        }
+        marks == 0
     }
 
-    /// At most 14 columns, right-justified in 16 bytes with blanks on their left.
+    /// At most 15 columns, right-justified in 16 bytes with blanks on their left.
     #[inline(always)]
     fn right_justified(&self, from: usize, to: usize) -> u128 {
         let text = if to >= 16 {
@@ -94,12 +103,15 @@ fn digits(text: u128) -> Option<Digits> {
         return None;
     }
     let before = u128::MAX >> (8 * count);
-    let figures = figures & !before;
-    let first = (figures >> (8 * (16 - count))) as u8;
-    if (text ^ BLANKS) & before != 0 || (first == 0 && count > 1) {
+    if (text ^ BLANKS) & before != 0 {
         return None;
     }
+    let figures = figures & !before;
     let value = eight_figures(figures as u64) * 100_000_000 + eight_figures((figures >> 64) as u64);
+    // A leading zero makes less than the least number of so many digits.
+    if count > 1 && value < POWERS[count as usize - 1] {
+        return None;
+    }
     Some(Digits { value, count: count as u8, text: figures | ZEROS })
 }
 

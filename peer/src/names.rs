@@ -5,7 +5,7 @@ use crate::refusals::{ensure, Refusal};
 use crate::tape::Tape;
 
 /// At most 6 + 6 + 5 + 3 bytes; the bytes after `len` are 0.
-#[derive(Clone, Copy, PartialEq, Eq)]
+#[derive(Clone, Copy, PartialEq, Eq, Hash)]
 pub struct Name {
     text: [u8; 24],
     len: u8,
@@ -74,11 +74,6 @@ impl Names {
     /// Whether there is a temporary suffix.
     pub fn differ(&self) -> bool {
         self.plain.len != self.temporary.len
-    }
-
-    /// Refusal 9 asks this of two securities.
-    pub fn share_one(&self, other: &Names) -> bool {
-        [self.plain, self.temporary].iter().any(|name| *name == other.plain || *name == other.temporary)
     }
 }
 

@@ -18,7 +18,8 @@ pub struct Price {
     digits: u128,
 }
 
-const POWERS: [u64; 15] = {
+/// Powers of ten.
+pub const POWERS: [u64; 15] = {
     let mut powers = [1; 15];
     let mut i = 1;
     while i < 15 {
