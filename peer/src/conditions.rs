@@ -44,7 +44,8 @@ impl Letters {
 
     #[inline(always)]
     fn at_most_one(self, of: Letters) -> bool {
-        (self.0 & of.0).count_ones() <= 1
+        let found = self.0 & of.0;
+        found & found.wrapping_sub(1) == 0
     }
 
     #[inline(always)]

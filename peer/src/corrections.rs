@@ -8,12 +8,7 @@ use crate::tape::Tape;
 use crate::trades::{self, Security, Shape};
 
 /// What both sides of a correction print, if it prints.
-pub fn correction_shape(
-    security: &Security,
-    settings: &Settings,
-    original: &Side,
-    correcting: &Side,
-) -> Option<Shape> {
+pub fn correction_shape(security: &Security, settings: &Settings, original: &Side, correcting: &Side) -> Option<Shape> {
     if settings.mode == Mode::Normal {
         return Some(Shape::FULL);
     }

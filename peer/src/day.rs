@@ -118,12 +118,7 @@ impl Default for Day {
 impl Day {
     /// A fresh state: no D accepted yet.
     pub fn new() -> Self {
-        Day {
-            date: 0,
-            settings: OPENING,
-            table: Box::new([Security::NONE; 513]),
-            names: HashSet::with_capacity(1024),
-        }
+        Day { date: 0, settings: OPENING, table: Box::new([Security::NONE; 513]), names: HashSet::with_capacity(1024) }
     }
 
     /// One line of any bytes and any length; its print goes to the start of the lent tape, and its length comes back.

@@ -102,8 +102,8 @@ impl Output for Facts {
 
     fn trade(&mut self, mode: Mode, trade: Trade) -> Result<(), Refusal> {
         let temporary = trade.temporary && trade.security.names.differ();
-        let volume = mode == Mode::Normal
-            || (trade.shape.volume && has_characters(trade.side.volume, trade.security.unit));
+        let volume =
+            mode == Mode::Normal || (trade.shape.volume && has_characters(trade.side.volume, trade.security.unit));
         self.add(format_args!("T sec={} tmp={} ", trade.number, u8::from(temporary)));
         self.whole_side(trade.side, volume);
         self.add(format_args!("\n"));

@@ -8,8 +8,8 @@ use crate::refusals::{ensure, Refusal};
 #[derive(Clone, Copy)]
 pub struct Line<'a>(&'a [u8; 100]);
 
-const BLANKS: u128 = u128::from_le_bytes([b' '; 16]);
-const ZEROS: u128 = u128::from_le_bytes([b'0'; 16]);
+const BLANKS: u64 = u64::from_le_bytes([b' '; 8]);
+const ZEROS: u64 = u64::from_le_bytes([b'0'; 8]);
 
 impl<'a> Line<'a> {
     /// None is refusal 1.
@@ -32,46 +32,62 @@ impl<'a> Line<'a> {
         self.0[from - 1..from - 1 + N].try_into().unwrap()
     }
 
-    /// Whether the columns from `from` to the end are blank; 16 at a time from the end.
+    /// Whether the columns from `from` to the end are blank: sixteen at a time, some of them twice.
     #[inline(always)]
     fn blank_from(&self, from: usize) -> bool {
-        let mut marks = 0;
-        let mut to = 100;
-        while to >= from + 15 {
-            marks |= u128::from_le_bytes(self.columns(to - 15)) ^ BLANKS;
-            to -= 16;
+        if from > 85 {
+            return self.0[from - 1..].iter().all(|&byte| byte == b' ');
         }
-        if to >= from {
-            marks |= self.right_justified(from, to) ^ BLANKS;
+        let marks = |from| u128::from_le_bytes(self.columns(from)) ^ u128::from_le_bytes([b' '; 16]);
+        let mut any = marks(85);
+        let mut at = from;
+        while at < 85 {
+            any |= marks(at);
+            at += 16;
         }
-        marks == 0
+        any == 0
     }
 
-    /// At most 15 columns, right-justified in 16 bytes with blanks on their left.
+    /// At most eight columns, right-justified with blanks on their left; the first is the lowest byte.
     #[inline(always)]
-    fn right_justified(&self, from: usize, to: usize) -> u128 {
-        let text = if to >= 16 {
-            u128::from_le_bytes(self.columns(to - 15))
+    fn right_justified(&self, from: usize, to: usize) -> u64 {
+        let text = if to >= 8 {
+            u64::from_le_bytes(self.columns(to - 7))
         } else {
-            u128::from_le_bytes(self.columns(1)) << (8 * (16 - to))
+            u64::from_le_bytes(self.columns(1)) << (8 * (8 - to))
         };
-        let outside = u128::MAX >> (8 * (to + 1 - from));
+        if to + 1 - from == 8 {
+            return text;
+        }
+        let outside = u64::MAX >> (8 * (to + 1 - from));
         text & !outside | BLANKS & outside
     }
 
-    /// A number that may be blank.
+    /// A number of at most 14 columns: blanks, then digits, no leading zero except 0 alone. None if all is blank.
     #[inline(always)]
     fn number_or_blank(&self, from: usize, to: usize) -> Result<Option<Digits>, Refusal> {
-        let text = self.right_justified(from, to);
-        if text == BLANKS {
-            return Ok(None);
+        let middle = from.max(to.saturating_sub(7));
+        let low = eight(self.right_justified(middle, to)).ok_or(Refusal::Form)?;
+        let high = if from < middle { self.right_justified(from, middle - 1) } else { BLANKS };
+        if high == BLANKS {
+            if low.count == 0 {
+                return Ok(None);
+            }
+            ensure(low.count == 1 || low.value >= POWERS[low.count - 1], Refusal::Form)?;
+            let text = u128::from(low.figures | ZEROS) << 64 | u128::from(ZEROS);
+            return Ok(Some(Digits { value: low.value, count: low.count as u8, text }));
         }
-        digits(text).map(Some).ok_or(Refusal::Form)
+        let high = eight(high).ok_or(Refusal::Form)?;
+        let whole = low.count == 8 && high.count > 0 && high.value >= POWERS[high.count - 1];
+        ensure(whole, Refusal::Form)?;
+        let value = high.value * 100_000_000 + low.value;
+        let text = u128::from(low.figures | ZEROS) << 64 | u128::from(high.figures | ZEROS);
+        Ok(Some(Digits { value, count: high.count as u8 + 8, text }))
     }
 
     #[inline(always)]
     fn number(&self, from: usize, to: usize) -> Result<Digits, Refusal> {
-        digits(self.right_justified(from, to)).ok_or(Refusal::Form)
+        self.number_or_blank(from, to)?.ok_or(Refusal::Form)
     }
 
     /// A number of one column.
@@ -83,7 +99,8 @@ impl<'a> Line<'a> {
     }
 }
 
-/// A number in its form: its value, how many digits it has, and the digits with leading zeros up to 16.
+/// A number in its form: its value, how many digits it has, and the digits with leading zeros up to 16,
+/// the first in the lowest byte.
 #[derive(Clone, Copy)]
 pub struct Digits {
     pub value: u64,
@@ -91,36 +108,31 @@ pub struct Digits {
     pub text: u128,
 }
 
-/// Blanks, then at least one digit, no leading zero except 0 alone. Bytes are below 128, the first is the lowest.
+/// Eight columns of blanks, then digits: how many digits, their figures 0..9 (0 for a blank), and the value.
+struct Eight {
+    count: usize,
+    figures: u64,
+    value: u64,
+}
+
+/// None if anything else stands there. Bytes are below 128.
 #[inline(always)]
-fn digits(text: u128) -> Option<Digits> {
-    const LIMIT: u128 = u128::from_le_bytes([0x76; 16]);
-    const HIGH_BITS: u128 = u128::from_le_bytes([0x80; 16]);
+fn eight(text: u64) -> Option<Eight> {
+    const LIMIT: u64 = u64::from_le_bytes([0x76; 8]);
+    const HIGH_BITS: u64 = u64::from_le_bytes([0x80; 8]);
     let figures = text ^ ZEROS;
-    // A byte from 10 up carries into its high bit.
+    // A byte from 10 up reaches its high bit.
     let count = ((figures + LIMIT) & HIGH_BITS).leading_zeros() / 8;
-    if count == 0 || count > 14 {
-        return None;
-    }
-    let before = u128::MAX >> (8 * count);
+    let before = u64::MAX >> (4 * count) >> (4 * count);
     if (text ^ BLANKS) & before != 0 {
         return None;
     }
     let figures = figures & !before;
-    let value = eight_figures(figures as u64) * 100_000_000 + eight_figures((figures >> 64) as u64);
-    // A leading zero makes less than the least number of so many digits.
-    if count > 1 && value < POWERS[count as usize - 1] {
-        return None;
-    }
-    Some(Digits { value, count: count as u8, text: figures | ZEROS })
-}
-
-/// Eight figures 0..9, the first in the lowest byte, as a number: pairs, fours, all.
-#[inline(always)]
-fn eight_figures(figures: u64) -> u64 {
+    // Pairs, fours, all.
     let pairs = figures.wrapping_mul(10 * 256 + 1) >> 8 & 0x00ff_00ff_00ff_00ff;
     let fours = pairs.wrapping_mul(100 * 65536 + 1) >> 16 & 0x0000_ffff_0000_ffff;
-    fours.wrapping_mul((10_000 << 32) + 1) >> 32
+    let value = fours.wrapping_mul((10_000 << 32) + 1) >> 32;
+    Some(Eight { count: count as usize, figures, value })
 }
 
 fn is_market(byte: u8) -> bool {

@@ -85,8 +85,8 @@ fn trimmed(field: &[u8]) -> &[u8] {
 
 const SUFFIXES: [&[u8]; 42] = [
     b"A", b"A.CL", b"A.CV", b"Aw", b"A.N", b"B", b"B.CL", b"B.CV", b"Bw", b"B.N", b"CL", b"CT", b"CV", b"CVR",
-    b"CV.CL", b"EC", b"F.N", b"PP", b"PT.CL", b"SC", b"SP", b"SD", b"TT", b"U", b"VR", b"WD", b"WS", b"W.WS",
-    b"WS.A", b"WS.B", b"WS.N", b"WSw", b"XW", b"r", b"rw", b"w", b"p", b"pw", b"pCL", b"pCV", b"pCV.CL", b"pWD",
+    b"CV.CL", b"EC", b"F.N", b"PP", b"PT.CL", b"SC", b"SP", b"SD", b"TT", b"U", b"VR", b"WD", b"WS", b"W.WS", b"WS.A",
+    b"WS.B", b"WS.N", b"WSw", b"XW", b"r", b"rw", b"w", b"p", b"pw", b"pCL", b"pCV", b"pCV.CL", b"pWD",
 ];
 
 fn is_suffix(text: &[u8]) -> bool {

@@ -109,9 +109,7 @@ pub fn shape(security: &Security, settings: &Settings, market: u8, side: &Side) 
         Mode::Rpo => always || (for_last && price != security.printed) || security.new_extreme(side),
         Mode::Mpv => {
             let least = u64::from(settings.mpv_level) * (DOLLAR / 20);
-            always
-                || first_for_last
-                || (for_last && security.printed != 0 && price.abs_diff(security.printed) > least)
+            always || first_for_last || (for_last && security.printed != 0 && price.abs_diff(security.printed) > least)
         }
     };
     prints.then(|| Shape {
