@@ -210,8 +210,10 @@ impl Day {
         let (number, market, side) = lines::trade(line)?;
         let security = &mut self.table[number];
         ensure(security.unit != 0, Refusal::NotEntered)?;
-        check_letters(&side, security.network)?;
-        check_companions(&side)?;
+        if !side.plain {
+            check_letters(&side, security.network)?;
+            check_companions(&side)?;
+        }
         let shape = trades::shape(security, &self.settings, market, &side);
         if let Some(shape) = shape {
             let temporary = security.trades < 5;

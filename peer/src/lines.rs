@@ -247,6 +247,8 @@ pub fn mpv_level(line: Line) -> Result<u32, Refusal> {
 pub struct Side {
     pub volume: u32,
     pub price: Price,
+    /// All that follows is blank; it may be blank without this.
+    pub plain: bool,
     pub letters: Letters,
     /// A letter stands twice.
     pub repeated: bool,
@@ -315,12 +317,14 @@ fn side(form: SideForm) -> Result<Side, Refusal> {
     let mut side = Side {
         volume: form.volume.value as u32,
         price: price(&form.n, form.decimals).ok_or(Refusal::Value)?,
+        plain: true,
         letters: Letters::NONE,
         repeated: false,
         days: 0,
         previous: Previous::Blank,
     };
     if let Some(extras) = form.extras {
+        side.plain = false;
         side.letters = extras.letters;
         side.repeated = extras.repeated;
         if let Some(days) = extras.days {
