@@ -1,5 +1,5 @@
 //! generate LINES SECURITIES MODE SEED: a day file on standard output, LINES lines of 100 columns, a line feed after each.
-//! One D, the S lines, an M line unless MODE is N; then mostly trades over all securities, with prices that move by small
+//! One D, the S lines, an M line for D, R and P; then mostly trades over all securities, with prices that move by small
 //! steps, and some corrections, cancels, errors, levels and refused lines. MODE is N, D, R, P, or A for changes among all.
 //! The same arguments give the same file.
 
@@ -181,7 +181,7 @@ fn level(dice: &mut Dice, kind: u8) -> Columns {
     line
 }
 
-/// A line that is refused: 1, 2, 4, 5, 6, 7, 8, 10, 11, 12.
+/// A line that is refused: 1, 2, 4, 5, 6 (while a number is free), 7, 10, 11, 12.
 fn refused(dice: &mut Dice, number: u64, securities: &[Security]) -> Columns {
     let security = &securities[number as usize - 1];
     let mut line = trade(dice, b'T', number, security, None);
