@@ -15,7 +15,7 @@ use Rattle.text.proofs.Writing.{then, named, length-put}
 use Rattle.rules.specs.declared.Refusal.the-variants.{Room}
 use Rattle.rules.specs.declared.Settings.{Settings}
 use Rattle.planner.specs.declared.Plan.{Plan}
-use Rattle.planner.specs.declared.Plan.the-variants.{Stop, Open, Enter, Change, Level, Step, Print}
+use Rattle.planner.specs.declared.Plan.the-variants.{Stop, Open, Enter, Change, Level, Step, Print, Cancel, Correct}
 use Rattle.planner.specs.Plan.{planOf}
 use Rattle.engine.specs.declared.Outcome.{Outcome}
 use Rattle.engine.specs.declared.Answer.{Answer}
@@ -33,6 +33,8 @@ print-counted st names (Change m) = refl
 print-counted st names (Level n) = refl
 print-counted st names (Step n) = refl
 print-counted st names (Print t) = refl
+print-counted st names (Cancel t) = refl
+print-counted st names (Correct c) = refl
 
 -- and fits the tape that was lent for it
 print-fits : (st : Settings) (table names line : List ℕ) (room : ℕ) → length (printOf st names (asked st table names line room)) ≤ room
