@@ -2,3 +2,4 @@ pub mod Sides
 pub mod Lookup
 pub mod Fresh
 pub mod Undone
+pub mod Carries

@@ -48,6 +48,7 @@ use Rattle.decoder.specs.Lawful.{LawfulSide}
 use Rattle.decoder.proofs.Sides.{price-by, volume-by}
 use Rattle.decoder.proofs.Lookup.{no-name, unlike-name}
 use Rattle.decoder.proofs.Fresh.{Fresh, fresh-pair, fresh-name}
+use Rattle.decoder.proofs.Carries.{mode-carried, minimum-carried, level-carried}
 use Rattle.decoder.proofs.Undone.{Known, trade-undone, cancel-undone, error-undone, correction-undone, minimum-undone, mode-undone, level-undone}
 use Rattle.wholeday.specs.Fine.{FineListing, FineTrade, FineCorrection, Fine}
 use Rattle.wholeday.specs.Kept.{atPlace, named, Kept, Later}
@@ -336,37 +337,17 @@ mode-first Dvd n s = (refl, fresh-pair _)
 mode-first Rpo n s = (refl, fresh-pair _)
 mode-first Mpv n s = minimum-first n s
 
--- the mode that an announcement tells
-by-told : (m k : Mode) (n : ℕ) → modeTold k (told m n) ≡ m
-unfolding modeTold told
-by-told Normal k n = refl
-by-told Dvd k n = refl
-by-told Rpo k n = refl
-by-told Mpv k n = refl
-
-told-mode : (m k : Mode) (n : ℕ) → modeAfter k (readAnnouncement (modeText m n)) ≡ m
-unfolding modeAfter
-told-mode m k n = ap (modeAfter k) (ap readAnnouncement (sym (append-nil (modeText m n))) ∙ mode-back m n []) ∙ by-told m k n
-
-minimum-mode : (k : Mode) (n : ℕ) → modeAfter k (readAnnouncement (minimumText n)) ≡ Mpv
-unfolding modeAfter modeTold
-minimum-mode k n = ap (modeAfter k) (ap readAnnouncement (sym (append-nil (minimumText n))) ∙ minimum-back n [])
-
-level-mode : (k : Mode) (n : ℕ) → n < 1000000000 → modeAfter k (readAnnouncement (levelText n)) ≡ k
-unfolding modeAfter modeTold
-level-mode k n h = ap (modeAfter k) (ap readAnnouncement (sym (append-nil (levelText n))) ∙ level-back n [] h)
-
 module _ (names : Names) (day : Day) where
   mode-owed : (m : Mode) (st : Settings) → st .mode ≡ m → owed.Owed names day (withSettings day st) (modeText m (day .settings .minimum)) (announcedIf (modeText m (day .settings .minimum)))
   unfolding next carriedOf
   mode-owed m st e =
       let n = day .settings .minimum in
-      announced-owed names day (withSettings day st) (modeText m n) (mode-first m n [] .0) (rw (told-mode m (day .settings .mode) n, e)) (λ s. mode-first m n s .1) (λ s. mode-undone names (carriedOf day) m n s)
+      announced-owed names day (withSettings day st) (modeText m n) (mode-first m n [] .0) (sym (mode-carried (carriedOf day) n m ∙ ap (λ (k : Mode). record { mode = k; printed = (carriedOf day) .printed }) (sym e))) (λ s. mode-first m n s .1) (λ s. mode-undone names (carriedOf day) m n s)
 
   level-owed : (n : ℕ) (st : Settings) → n < 1000000000 → st .mode ≡ day .settings .mode → owed.Owed names day (withSettings day st) (levelText n) (announcedIf (levelText n))
   unfolding next carriedOf
   level-owed n st h e =
-      announced-owed names day (withSettings day st) (levelText n) (level-first n [] .0) (rw (level-mode (day .settings .mode) n h, e)) (λ s. level-first n s .1) (λ s. level-undone names (carriedOf day) n s h)
+      announced-owed names day (withSettings day st) (levelText n) (level-first n [] .0) (ap (λ (k : Mode). record { mode = k; printed = (carriedOf day) .printed }) e ∙ sym (level-carried (carriedOf day) n h)) (λ s. level-first n s .1) (λ s. level-undone names (carriedOf day) n s h)
 
   -- P prints in MPV only
   step-owed : (n : ℕ) (st : Settings) (m : Mode) → day .settings .mode ≡ m → st .mode ≡ m → owed.Owed names day (withSettings day st) (stepText m n) (announcedIf (stepText m n))
@@ -374,7 +355,7 @@ module _ (names : Names) (day : Day) where
   step-owed n st Normal d e = record { no-text = refl; stays = rw (e, d) }
   step-owed n st Dvd d e = record { no-text = refl; stays = rw (e, d) }
   step-owed n st Rpo d e = record { no-text = refl; stays = rw (e, d) }
-  step-owed n st Mpv d e = announced-owed names day (withSettings day st) (minimumText n) (minimum-first n [] .0) (rw (minimum-mode (day .settings .mode) n, e)) (λ s. minimum-first n s .1) (λ s. minimum-undone names (carriedOf day) n s)
+  step-owed n st Mpv d e = announced-owed names day (withSettings day st) (minimumText n) (minimum-first n [] .0) (sym (minimum-carried (carriedOf day) n ∙ ap (λ (k : Mode). record { mode = k; printed = (carriedOf day) .printed }) (sym e))) (λ s. minimum-first n s .1) (λ s. minimum-undone names (carriedOf day) n s)
 
 -- ---- a security entered: none printed yet
 
