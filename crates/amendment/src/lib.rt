@@ -56,8 +56,9 @@ fn write_end_pair(rest: &mut [u8], x: Side) -> usize
     text::write_optional(rest, !letters.g, b">>")
 }
 
-// The correcting trade, with its name or without.
+// The correcting trade, with its name or without, by the letters.
 fn correcting_length(
+    letters: Letters,
     name: &[u8],
     network: u64,
     unit: u64,
@@ -66,9 +67,8 @@ fn correcting_length(
     y: Side,
 ) -> usize
     requires { ⌜ (1 ≤ unit) × (y .price .d ≤ 8) × (y .previous .d ≤ 8) ⌝ }
-    ensures { λ r. ⌜ (r ≡ length (sideText (opt (repeatsName (y .letters)) (now (name .entry))) network unit full shows y)) × (r ≤ length (now (name .entry)) + 161) ⌝ }
+    ensures { λ r. ⌜ (r ≡ length (sideText (opt (repeatsName letters) (now (name .entry))) network unit full shows y)) × (r ≤ length (now (name .entry)) + 161) ⌝ }
 {
-    let letters = y.letters;
     if repeats_name(letters) {
         return trade::side_length(name, network, unit, full, shows, y);
     }
@@ -77,6 +77,7 @@ fn correcting_length(
 
 fn write_correcting(
     rest: &mut [u8],
+    letters: Letters,
     name: &[u8],
     network: u64,
     unit: u64,
@@ -84,10 +85,9 @@ fn write_correcting(
     shows: bool,
     y: Side,
 ) -> usize
-    requires { ⌜ (1 ≤ unit) × (y .price .d ≤ 8) × (y .previous .d ≤ 8) × (length (sideText (opt (repeatsName (y .letters)) (now name)) network unit full shows y) ≤ length (now rest)) ⌝ }
-    ensures { λ r. ⌜ Written (sideText (opt (repeatsName (y .letters)) (now (name .entry))) network unit full shows y) (now (rest .entry)) (now (rest .exit)) r ⌝ }
+    requires { ⌜ (1 ≤ unit) × (y .price .d ≤ 8) × (y .previous .d ≤ 8) × (length (sideText (opt (repeatsName letters) (now name)) network unit full shows y) ≤ length (now rest)) ⌝ }
+    ensures { λ r. ⌜ Written (sideText (opt (repeatsName letters) (now (name .entry))) network unit full shows y) (now (rest .entry)) (now (rest .exit)) r ⌝ }
 {
-    let letters = y.letters;
     if repeats_name(letters) {
         return trade::write_side(rest, name, network, unit, full, shows, y);
     }
@@ -154,8 +154,9 @@ pub fn correction_length(
     requires { ⌜ (1 ≤ unit) × (x .price .d ≤ 8) × (x .previous .d ≤ 8) × (y .price .d ≤ 8) × (y .previous .d ≤ 8) × (length (now name) ≤ 22) ⌝ }
     ensures { λ r. ⌜ r ≡ length (correctionText (now (name .entry)) network unit full shows x y) ⌝ }
 {
+    let letters = y.letters; // the length, by the correcting trade
     let a = trade::side_length(name, network, unit, full, shows, x);
-    let b = correcting_length(name, network, unit, full, shows, y);
+    let b = correcting_length(letters, name, network, unit, full, shows, y);
     7 + a + 4 + b + end_pair_length(y)
 }
 
@@ -172,9 +173,20 @@ pub fn write_correction(
     requires { ⌜ (1 ≤ unit) × (x .price .d ≤ 8) × (x .previous .d ≤ 8) × (y .price .d ≤ 8) × (y .previous .d ≤ 8) × (length (correctionText (now name) network unit full shows x y) ≤ length (now rest)) ⌝ }
     ensures { λ r. ⌜ Written (correctionText (now (name .entry)) network unit full shows x y) (now (rest .entry)) (now (rest .exit)) r ⌝ }
 {
+    let letters = y.letters; // the text, by the correcting trade
     let at = text::write_bytes(rest, b"<<CORR.");
     let at2 = at + trade::write_side(&mut rest[at..], name, network, unit, full, shows, x);
     let at3 = at2 + text::write_bytes(&mut rest[at2..], b"WAS.");
-    let at4 = at3 + write_correcting(&mut rest[at3..], name, network, unit, full, shows, y);
+    let at4 = at3
+        + write_correcting(
+            &mut rest[at3..],
+            letters,
+            name,
+            network,
+            unit,
+            full,
+            shows,
+            y,
+        );
     at4 + write_end_pair(&mut rest[at4..], y)
 }

@@ -137,7 +137,7 @@ fn prints_in_rpo(st: Settings, s: Security, x: Side, y: Side) -> bool
     requires { ⌜ Sound (x .price) × Sound (y .price) ⌝ }
     ensures { λ r. ⌜ r ≡ (hasRule (y .letters) || printsInBoth st s x y) ⌝ }
 {
-    let letters = y.letters;
+    let letters = y.letters; // of the correcting trade alone
     if qualifying::has_rule(letters) {
         return true;
     }
@@ -256,7 +256,8 @@ fn full_prices(st: Settings, s: Security, x: Side, y: Side) -> bool
 fn shows_volumes(st: Settings, x: Side, y: Side) -> bool
     ensures { λ r. ⌜ r ≡ showsVolumes st x y ⌝ }
 {
-    if decision::at_level(st, y.volume) {
+    let volume = y.volume;
+    if decision::at_level(st, volume) {
         return true;
     }
     either_rule(x, y)
@@ -306,10 +307,11 @@ pub fn cancel_shows(st: Settings, x: Side) -> bool
 {
     let mode = st.mode;
     let letters = x.letters;
+    let volume = x.volume;
     if decision::is_normal(mode) {
         return true;
     }
-    if decision::at_level(st, x.volume) {
+    if decision::at_level(st, volume) {
         return true;
     }
     qualifying::has_rule(letters)

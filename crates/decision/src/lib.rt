@@ -360,7 +360,7 @@ pub fn last_after(s: Security, x: Side) -> u64
     ensures { λ r. ⌜ r ≡ lastAfter s x ⌝ }
 {
     let letters = x.letters;
-    let price = x.price;
+    let price = x.price; // the new last
     if !qualifying::for_last(letters) {
         return s.last;
     }
