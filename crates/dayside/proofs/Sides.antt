@@ -12,7 +12,8 @@ use Rattle.rules.specs.Line.{volumeIn, priceIn, decimalsIn, lettersField, daysI
 use Rattle.dayside.specs.declared.SideFields.{SideFields}
 use Rattle.dayside.specs.declared.LettersRead.{LettersRead}
 use Rattle.dayside.specs.declared.SideRead.{SideRead}
-use Rattle.dayside.specs.Side.{sideFields, lettersRead, formedBy, rangedBy, sideBy, matchedBy, sideRead}
+use Rattle.dayside.specs.Side.{sideFields, lettersRead, sideRead}
+use Rattle.rules.specs.Line.{formedBy, rangedBy, sideBy, matchedBy}
 
 pub fields-read : (part : List ℕ) (volume n d days m e : Number) → volume ≡ volumeIn part → n ≡ priceIn part → d ≡ decimalsIn part → days ≡ daysIn part → m ≡ previousIn part → e ≡ previousDecimalsIn part → (record { volume = volume; n = n; d = d; days = days; m = m; e = e }) ≡ sideFields part
 unfolding sideFields

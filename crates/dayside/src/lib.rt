@@ -9,7 +9,8 @@ ghost use mathlib.Core.Bool.{_&&_};
 ghost use lib.ListN.{length};
 ghost use Rattle.rules.specs.Columns.{isNumber};
 ghost use Rattle.rules.specs.Line.{alike};
-ghost use Rattle.dayside.specs.Side.{sideFields, lettersRead, formedBy, rangedBy, sideBy, matchedBy, sideRead};
+ghost use Rattle.dayside.specs.Side.{sideFields, lettersRead, sideRead};
+ghost use Rattle.rules.specs.Line.{formedBy, rangedBy, sideBy, matchedBy};
 
 // One side of a T, X, E or C line: in its form, within its values, its value, and what refusals 10 and 11 ask of it alone.
 pub struct SideRead {

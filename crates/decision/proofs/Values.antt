@@ -15,7 +15,8 @@ use Rattle.rules.specs.declared.Price.{Price}
 use Rattle.rules.specs.declared.Side.{Side}
 use Rattle.rules.specs.declared.Settings.{Settings}
 use Rattle.rules.specs.declared.Security.{Security}
-use Rattle.decision.specs.Parts.{fullAt, newAt, lastUnlike, lastFar, printsRpo, printsMpv}
+use Rattle.decision.specs.Parts.{newAt, lastUnlike, lastFar, printsRpo, printsMpv}
+use Rattle.rules.specs.Trade.{fullAt}
 
 -- ---- a price's value, as a callee answered it
 

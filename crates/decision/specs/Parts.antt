@@ -9,16 +9,6 @@ use Rattle.rules.specs.declared.Side.{Side}
 use Rattle.rules.specs.declared.Settings.{Settings}
 use Rattle.rules.specs.declared.Security.{Security}
 
--- full price, by the whole part
-unfoldable pub fullAt : Security → ℕ → ℕ → Bool
-fullAt s market whole =
-    eqb (s .printed) 0
-    || (not (eqb (tens whole) (tens (dollars (s .printed))))
-    || (endsInZero whole
-    || (eqb (s .unit) 1
-    || (leb 1000 whole
-    || six s market))))
-
 -- new high or low, by value
 unfoldable pub newAt : Security → ℕ → Bool
 newAt s value = newHigh s value || newLow s value

@@ -13,7 +13,8 @@ ghost use Rattle.text.specs.Pick.{pick};
 ghost use Rattle.rules.specs.Price.{units};
 ghost use Rattle.rules.specs.Trade.{six, atLevel, firstQualifying, newHigh, newLow, newRange, tens, endsInZero, dollars, fullPrice, showsVolume, printsAnyhow, unlikePrinted, farFromPrinted, printsTrade, isNormal, tradeFull, tradeShows, highAfter, lowAfter, lastAfter, counted, afterTrade};
 ghost use Rattle.prices.specs.Sound.{Sound};
-ghost use Rattle.decision.specs.Parts.{fullAt, newAt, lastUnlike, lastFar, printsRpo, printsMpv};
+ghost use Rattle.decision.specs.Parts.{newAt, lastUnlike, lastFar, printsRpo, printsMpv};
+ghost use Rattle.rules.specs.Trade.{fullAt};
 
 // ---- a security
 

@@ -15,7 +15,7 @@ use Rattle.rules.specs.Columns.{between}
 use Rattle.rules.specs.Price.{wholePart, fraction, units}
 use Rattle.rules.specs.Volume.{volumeText, fullVolume}
 use Rattle.rules.specs.Trade as trade
-use Rattle.rules.specs.Trade.{six, endsInZero, dollars, fullPrice, showsVolume, isNormal, tradeFull, tradeShows}
+use Rattle.rules.specs.Trade.{six, endsInZero, dollars, fullAt, fullPrice, showsVolume, isNormal, tradeFull, tradeShows}
 use Rattle.rules.specs.Shown.{Conditions, shownLetters, conditionsOf}
 use Rattle.rules.specs.declared.Mode.{Mode}
 use Rattle.rules.specs.declared.Price.{Price}
@@ -98,7 +98,7 @@ or-right true b h = absurd (false-true (sym h))
 or-right false b h = h
 
 short-is : (s : Security) (market : ℕ) (x : Side) → fullPrice s market x ≡ false → Short s (wholePart (x .price))
-unfolding fullPrice trade.tens endsInZero
+unfolding fullPrice fullAt trade.tens endsInZero
 short-is s market x h =
     let w = wholePart (x .price) in
     let a = or-right (eqb (s .printed) 0) _ h in

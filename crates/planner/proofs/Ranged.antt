@@ -11,7 +11,7 @@ use Rattle.text.specs.Pick.{pick}
 use Rattle.text.proofs.Tests.{pick-yes, pick-no}
 use Rattle.text.proofs.Texts.{and-left, and-right}
 use Rattle.rules.specs.Columns.{column, numberIn, valueOf, passes, between}
-use Rattle.rules.specs.Line.{isShaped, isPrintable, isFormed, isRanged, lineOf, ofKind, nameColumns, isPrice, previousRanged, sideRanged, sideOf, volumeIn, priceIn, decimalsIn, daysIn, previousIn, previousDecimalsIn, isSecurityNumber, isUnit, listingRanged, listingOf, tradeRanged, tradeOf, correctionRanged, correctionOf, firstSide}
+use Rattle.rules.specs.Line.{isShaped, isPrintable, isFormed, isRanged, lineOf, ofKind, nameColumns, isPrice, previousRanged, rangedBy, sideRanged, sideBy, sideOf, volumeIn, priceIn, decimalsIn, daysIn, previousIn, previousDecimalsIn, isSecurityNumber, isUnit, listingRanged, listingOf, tradeRanged, tradeOf, correctionRanged, correctionOf, firstSide}
 use Rattle.rules.specs.declared.Number.{Number}
 use Rattle.rules.specs.declared.Number.the-variants.{Blank, Bad, Is}
 use Rattle.rules.specs.declared.Parsed.{Parsed}
@@ -45,7 +45,7 @@ unfolding isSecurityNumber between
 sound-number n h = (leb-true 1 n (and-left (leb 1 n) (leb n 512) h), leb-true n 512 (and-right (leb 1 n) (leb n 512) h))
 
 sound-side : (side : List ℕ) → sideRanged side ≡ true → Sound ((sideOf side) .price) × ((sideOf side) .previous .d ≤ 8)
-unfolding sideRanged sideOf
+unfolding sideRanged sideOf rangedBy sideBy
 sound-side side h =
     let r = and-right (leb 1 (valueOf (volumeIn side))) _ h in
     let p = and-left (isPrice (valueOf (priceIn side)) (valueOf (decimalsIn side))) _ r in

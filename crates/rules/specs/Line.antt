@@ -14,6 +14,7 @@ use Rattle.rules.specs.declared.Number.the-variants.{Blank, Bad, Is}
 use Rattle.rules.specs.declared.Mode.{Mode}
 use Rattle.rules.specs.declared.Mode.the-variants.{Normal, Dvd, Rpo, Mpv}
 use Rattle.rules.specs.declared.Price.{Price}
+use Rattle.rules.specs.declared.Letters.{Letters}
 use Rattle.rules.specs.declared.Side.{Side}
 use Rattle.rules.specs.declared.Listing.{Listing}
 use Rattle.rules.specs.declared.Trade.{Trade}
@@ -70,16 +71,19 @@ previousIn side = numberIn (columns 32 45 side)
 abbrev pub previousDecimalsIn : List ℕ → Number
 previousDecimalsIn side = numberIn (columns 46 46 side)
 
--- only letters, days and previous last may be blank
+-- only letters, days and previous last may be blank: a side's fields, each read once (volume, n, d, letters in their form, days, previous last n and d)
+unfoldable pub formedBy : Number → Number → Number → Bool → Number → Number → Number → Bool
+formedBy volume n d letters days m e =
+    isNumber volume
+    && (isNumber n
+    && (isNumber d
+    && (letters
+    && (numberOrBlank days
+    && (numberOrBlank m
+    && numberOrBlank e)))))
+
 unfoldable pub sideFormed : List ℕ → Bool
-sideFormed side =
-    isNumber (volumeIn side)
-    && (isNumber (priceIn side)
-    && (isNumber (decimalsIn side)
-    && (lettersFormed (lettersField side)
-    && (numberOrBlank (daysIn side)
-    && (numberOrBlank (previousIn side)
-    && numberOrBlank (previousDecimalsIn side))))))
+sideFormed side = formedBy (volumeIn side) (priceIn side) (decimalsIn side) (lettersFormed (lettersField side)) (daysIn side) (previousIn side) (previousDecimalsIn side)
 
 -- n from 1 to below ten to the power 6 + d, d 0..8
 unfoldable pub isPrice : ℕ → ℕ → Bool
@@ -94,32 +98,41 @@ previousRanged (Is n) Bad = leb 1 n
 previousRanged (Is n) (Is d) = isPrice n d
 
 -- volume from 1; days 1..999
+unfoldable pub rangedBy : Number → Number → Number → Number → Number → Number → Bool
+rangedBy volume n d days m e =
+    leb 1 (valueOf volume)
+    && (isPrice (valueOf n) (valueOf d)
+    && (passes (leb 1) days
+    && previousRanged m e))
+
 unfoldable pub sideRanged : List ℕ → Bool
-sideRanged side =
-    leb 1 (valueOf (volumeIn side))
-    && (isPrice (valueOf (priceIn side)) (valueOf (decimalsIn side))
-    && (passes (leb 1) (daysIn side)
-    && previousRanged (previousIn side) (previousDecimalsIn side)))
+sideRanged side = rangedBy (volumeIn side) (priceIn side) (decimalsIn side) (daysIn side) (previousIn side) (previousDecimalsIn side)
+
+unfoldable pub sideBy : Number → Number → Number → Letters → Number → Number → Number → Side
+sideBy volume n d letters days m e = record {
+  volume = valueOf volume;
+  price = record { n = valueOf n; d = valueOf d };
+  letters = letters;
+  days = valueOf days;
+  previous = record { n = valueOf m; d = valueOf e };
+}
 
 unfoldable pub sideOf : List ℕ → Side
-sideOf side = record {
-  volume = valueOf (volumeIn side);
-  price = record { n = valueOf (priceIn side); d = valueOf (decimalsIn side) };
-  letters = lettersIn (lettersField side);
-  days = valueOf (daysIn side);
-  previous = record { n = valueOf (previousIn side); d = valueOf (previousDecimalsIn side) };
-}
+sideOf side = sideBy (volumeIn side) (priceIn side) (decimalsIn side) (lettersIn (lettersField side)) (daysIn side) (previousIn side) (previousDecimalsIn side)
 
 -- both hold or neither
 unfoldable pub alike : Bool → Bool → Bool
 alike a b = pick a b (not b)
 
 -- what refusal 11 asks: days exactly with R, previous last exactly with G, both its fields
+unfoldable pub matchedBy : Letters → Number → Number → Number → Bool
+matchedBy letters days m e =
+    alike (letters .r) (isNumber days)
+    && (alike (letters .g) (isNumber m)
+    && alike (letters .g) (isNumber e))
+
 unfoldable pub sideMatched : List ℕ → Bool
-sideMatched side =
-    alike ((lettersIn (lettersField side)) .r) (isNumber (daysIn side))
-    && (alike ((lettersIn (lettersField side)) .g) (isNumber (previousIn side))
-    && alike ((lettersIn (lettersField side)) .g) (isNumber (previousDecimalsIn side)))
+sideMatched side = matchedBy (lettersIn (lettersField side)) (daysIn side) (previousIn side) (previousDecimalsIn side)
 
 abbrev pub firstSide : List ℕ → List ℕ
 firstSide line = columns 7 52 line

@@ -49,14 +49,17 @@ unfoldable pub dollars : ℕ → ℕ
 dollars value = value / 100000000
 
 -- full price, outside normal: none printed yet that day, tens or higher differ from the last printed price, whole part ends in 0, unit 1, 1,000 or over, six
-unfoldable pub fullPrice : Security → ℕ → Side → Bool
-fullPrice s market x =
+unfoldable pub fullAt : Security → ℕ → ℕ → Bool
+fullAt s market whole =
     eqb (s .printed) 0
-    || (not (eqb (tens (wholePart (x .price))) (tens (dollars (s .printed))))
-    || (endsInZero (wholePart (x .price))
+    || (not (eqb (tens whole) (tens (dollars (s .printed))))
+    || (endsInZero whole
     || (eqb (s .unit) 1
-    || (leb 1000 (wholePart (x .price))
+    || (leb 1000 whole
     || six s market))))
+
+unfoldable pub fullPrice : Security → ℕ → Side → Bool
+fullPrice s market x = fullAt s market (wholePart (x .price))
 
 -- volume shown, outside normal: at the level, first trade qualifying for last, six, J or G
 unfoldable pub showsVolume : Settings → Security → ℕ → Side → Bool

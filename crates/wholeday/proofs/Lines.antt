@@ -16,7 +16,7 @@ use Rattle.rules.specs.Columns.{columns, column, isBlank, justified, digitsFrom
 use Rattle.rules.specs.Names.{rootField, lawfulName}
 use Rattle.rules.specs.Price.{units}
 use Rattle.rules.specs.Conditions.{lettersIn, lawfulLetters}
-use Rattle.rules.specs.Line.{isPrice, previousRanged, sideRanged, sideOf, alike, sideMatched, volumeIn, priceIn, decimalsIn, lettersField, daysIn, previousIn, previousDecimalsIn, firstSide, secondSide, nameColumns, isSecurityNumber, isUnit, listingFormed, listingRanged, listingOf, levelRanged, tradeRanged, tradeOf, correctionRanged, correctionOf, ofKind}
+use Rattle.rules.specs.Line.{isPrice, previousRanged, rangedBy, sideRanged, sideBy, sideOf, alike, matchedBy, sideMatched, volumeIn, priceIn, decimalsIn, lettersField, daysIn, previousIn, previousDecimalsIn, firstSide, secondSide, nameColumns, isSecurityNumber, isUnit, listingFormed, listingRanged, listingOf, levelRanged, tradeRanged, tradeOf, correctionRanged, correctionOf, ofKind}
 use Rattle.rules.specs.declared.Number.{Number}
 use Rattle.rules.specs.declared.Number.the-variants.{Blank, Bad, Is}
 use Rattle.rules.specs.declared.Parsed.{Parsed}
@@ -103,7 +103,7 @@ unmatched false Bad h e = refl
 unmatched false (Is n) h e = absurd (false-true h)
 
 lawful-side : (side : List ℕ) → sideRanged side ≡ true → lawfulLetters (lettersField side) ≡ true → sideMatched side ≡ true → LawfulSide (sideOf side)
-unfolding sideRanged sideMatched sideOf isPrice units
+unfolding sideRanged sideMatched sideOf rangedBy matchedBy sideBy isPrice units
 lawful-side side h k m =
     let r = and-right (leb 1 (valueOf (volumeIn side))) _ h in
     let p = and-left (isPrice (valueOf (priceIn side)) (valueOf (decimalsIn side))) _ r in

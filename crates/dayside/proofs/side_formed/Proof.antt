@@ -1,5 +1,5 @@
 use Rattle.dayside.proofs.Flags.{rows}
-use Rattle.dayside.specs.Side.{formedBy}
+use Rattle.rules.specs.Line.{formedBy}
 use borrow.Author.Needs.{needs}
 use Rattle.dayside.proofs.side_formed.Statement.{statement}
 use Rattle.dayside.proofs.side_formed.Tie as tie

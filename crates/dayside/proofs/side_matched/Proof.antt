@@ -1,5 +1,5 @@
 use Rattle.dayside.proofs.Flags.{flags}
-use Rattle.dayside.specs.Side.{matchedBy}
+use Rattle.rules.specs.Line.{matchedBy}
 use borrow.Author.Needs.{needs}
 use Rattle.dayside.proofs.side_matched.Statement.{statement}
 use Rattle.dayside.proofs.side_matched.Tie as tie

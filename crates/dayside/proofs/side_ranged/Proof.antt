@@ -1,5 +1,5 @@
 use Rattle.dayside.proofs.Flags.{flags, values}
-use Rattle.dayside.specs.Side.{rangedBy}
+use Rattle.rules.specs.Line.{rangedBy}
 use borrow.Author.Needs.{needs}
 use Rattle.dayside.proofs.side_ranged.Statement.{statement}
 use Rattle.dayside.proofs.side_ranged.Tie as tie

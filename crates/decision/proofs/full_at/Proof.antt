@@ -1,5 +1,5 @@
 use Rattle.text.proofs.Told.{answers}
-use Rattle.decision.specs.Parts.{fullAt}
+use Rattle.rules.specs.Trade.{fullAt}
 use borrow.Author.Needs.{needs}
 use Rattle.decision.proofs.full_at.Statement.{statement}
 use Rattle.decision.proofs.full_at.Tie as tie
