@@ -1,0 +1,21 @@
+-- Parts of a block, and a day from a fresh state. Assumes nothing.
+use Prim.Native.Nat.{ℕ, _≤_}
+use mathlib.Core.Path.{_≡_, sym}
+use mathlib.Core.List.{List}
+use lib.ListN.{length, take}
+use lib.Seq.{length-take-le}
+use Rattle.rules.specs.Day.{opened}
+use Rattle.rules.specs.declared.Settings.{Settings}
+use Rattle.lines.specs.declared.Fed.{Fed}
+use Rattle.lines.specs.Feed.{started, blockTaken, Stands}
+
+-- the first n bytes are n
+pub counted : (n : ℕ) (xs : List ℕ) → n ≤ length xs → n ≡ length (take n xs)
+counted n xs h = sym (length-take-le n xs h)
+
+-- what is fed from the settings of a fresh state
+pub from-fresh : (st : Settings) (block table names tape₀ refusals₀ table′ names′ tape refusals : List ℕ) (number : ℕ) (f : Fed)
+    → st ≡ opened 0
+    → Stands tape₀ refusals₀ (blockTaken (length tape₀) (length refusals₀) block (started st table names number)) table′ names′ tape refusals f
+    → Stands tape₀ refusals₀ (blockTaken (length tape₀) (length refusals₀) block (started (opened 0) table names number)) table′ names′ tape refusals f
+from-fresh st block table names tape₀ refusals₀ table′ names′ tape refusals number f e fed = rw e at fed

@@ -1,0 +1,143 @@
+// The stored days: the engine runs over each day file of data/, and what it writes is held to the stored answers, the file
+// stdout: for each day its tape, a line feed, and its refused lines. A day file is shorter than 65,536 bytes.
+use libc::STDOUT_FILENO;
+use lines::Fed;
+ghost use mathlib.Core.Path.{_≡_};
+ghost use Prim.Native.Nat.{_≤_, _<_};
+ghost use lib.ListN.{length, take};
+ghost use Rattle.rules.specs.Day.{opened};
+ghost use Rattle.lines.specs.Feed.{started, blockTaken, Stands};
+ghost use Rattle.vectors.specs.Names.{dayName};
+
+// The name of day n.
+fn day_name(n: u8) -> [u8; 6]
+    requires { ⌜ n < 100 ⌝ }
+    ensures { λ r. ⌜ r ≡ dayName n ⌝ }
+{
+    [b'0' + n / 10, b'0' + n % 10, b'.', b'd', b'a', b'y']
+}
+
+// A last line that no line feed ends is a line too: it gets one. The answer is the day's length.
+fn closed(block: &mut [u8; 65536], n: usize) -> usize
+    requires { ⌜ n ≤ 65536 ⌝ }
+    ensures { λ r. ⌜ r ≤ 65536 ⌝ }
+{
+    if n == 0 {
+        return 0;
+    }
+    if n == 65536 {
+        return n;
+    }
+    if block[n - 1] == b'\n' {
+        return n;
+    }
+    block[n] = b'\n';
+    n + 1
+}
+
+// The day's lines go to the engine from a fresh state; the first has number 1.
+fn take_day(
+    table: &mut [u64; 5632],
+    names: &mut [u8; 9728],
+    day: &[u8],
+    tape: &mut [u8],
+    refusals: &mut [u8],
+) -> Fed
+    ensures { λ r. ⌜ Stands (now (tape .entry)) (now (refusals .entry)) (blockTaken (length (now (tape .entry))) (length (now (refusals .entry))) (now (day .entry)) (started (opened 0) (now (table .entry)) (now (names .entry)) 1)) (now (table .exit)) (now (names .exit)) (now (tape .exit)) (now (refusals .exit)) r ⌝ }
+{
+    let settings = engine::fresh();
+    lines::feed(settings, 1, table, names, day, tape, refusals)
+}
+
+// Writes what was gathered, and answers whether all of it was taken.
+fn write_out(tape: &[u8], n: usize, refusals: &[u8], k: usize) -> bool
+    requires { ⌜ (n ≤ length (now tape)) × (k ≤ length (now refusals)) ⌝ }
+{
+    if !io::write_all(STDOUT_FILENO, &tape[..n]) {
+        return false;
+    }
+    if !io::write_all(STDOUT_FILENO, b"\n") {
+        return false;
+    }
+    io::write_all(STDOUT_FILENO, &refusals[..k])
+}
+
+// Takes the day that the block's first n bytes are, and writes what comes out.
+fn show_day(
+    table: &mut [u64; 5632],
+    names: &mut [u8; 9728],
+    block: &[u8],
+    n: usize,
+    tape: &mut [u8],
+    refusals: &mut [u8],
+) -> bool
+    requires { ⌜ n ≤ length (now block) ⌝ }
+{
+    let f = take_day(table, names, &block[..n], tape, refusals);
+    write_out(tape, f.tape, refusals, f.refusals)
+}
+
+// Reads a day file and shows its day; answers false where it cannot be opened or what comes out cannot be written.
+fn run_file(
+    path: &[u8],
+    table: &mut [u64; 5632],
+    names: &mut [u8; 9728],
+    block: &mut [u8; 65536],
+    tape: &mut [u8; 65536],
+    refusals: &mut [u8; 65536],
+) -> bool {
+    let fd = os::open_read(path);
+    if fd < 0 {
+        return false;
+    }
+    let got = io::read_full(fd, block);
+    libc::close(fd);
+    let n = closed(block, got);
+    show_day(table, names, block, n, tape, refusals)
+}
+
+// Days 01 to 16, up to the first that fails.
+fn run_numbered(
+    table: &mut [u64; 5632],
+    names: &mut [u8; 9728],
+    block: &mut [u8; 65536],
+    tape: &mut [u8; 65536],
+    refusals: &mut [u8; 65536],
+) -> bool {
+    let mut n: u8 = 1;
+    while n <= 16 {
+        let name = day_name(n);
+        if !run_file(&name, table, names, block, tape, refusals) {
+            return false;
+        }
+        n += 1;
+    }
+    true
+}
+
+fn main() {
+    let mut table = [0u64; 5632];
+    let mut names = [0u8; 9728];
+    let mut block = [0u8; 65536];
+    let mut tape = [0u8; 65536];
+    let mut refusals = [0u8; 65536];
+    if !run_numbered(&mut table, &mut names, &mut block, &mut tape, &mut refusals) {
+        return;
+    }
+    run_file(
+        b"trades.day",
+        &mut table,
+        &mut names,
+        &mut block,
+        &mut tape,
+        &mut refusals,
+    );
+    run_file(
+        b"corrections.day",
+        &mut table,
+        &mut names,
+        &mut block,
+        &mut tape,
+        &mut refusals,
+    );
+}
