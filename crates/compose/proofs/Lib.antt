@@ -1,0 +1,8 @@
+pub mod Below
+pub mod Fields
+pub mod Letters
+pub mod Sides
+pub mod ByKind
+pub mod Listing
+pub mod Sided
+pub mod Prints

@@ -1,0 +1,120 @@
+-- Four columns hold at most four letters. Assumes nothing.
+use Prim.Native.Nat.{ℕ, zero, suc, _+_, _≤_, _<_}
+use native.Mathlib.Omega.{arith}
+use mathlib.Core.Path.{_≡_, refl, sym, ap, _∙_}
+use mathlib.Core.Bool.{Bool, true, false, _&&_, _||_, not}
+use mathlib.Core.List.{List, [], _∷_}
+use lib.Dec.{eqb, leb}
+use lib.ListN.{length}
+use borrow.Author.Tests.{eqb-true, eqb-false, not-true}
+use Rattle.text.specs.Bytes.{bytes}
+use Rattle.text.specs.Pick.{pick, among}
+use Rattle.text.specs.Reading.{Read, found, before, span}
+use Rattle.text.proofs.Texts.{and-left, and-right}
+use Rattle.text.proofs.Tests.{is-le}
+use Rattle.rules.specs.Columns.{word, notBlank}
+use Rattle.rules.specs.Conditions.{lettersIn, unrepeated}
+use Rattle.rules.specs.Shown.{shownLetters}
+use Rattle.rules.specs.declared.Letters.{Letters}
+use Rattle.named.proofs.Root.{false-true}
+use Rattle.compose.specs.Shown.{one, letterCount}
+
+-- how many of the letters stand in the text
+counted : List ℕ → List ℕ → ℕ
+counted [] w = 0
+counted (c ∷ l) w = one (among c w) + counted l w
+
+-- how many of the letters are the byte
+hits : ℕ → List ℕ → ℕ
+hits b [] = 0
+hits b (c ∷ l) = one (eqb c b) + hits b l
+
+one-or : (a b : Bool) → one (a || b) ≤ one a + one b
+unfolding pick
+one-or true b = omega arith
+one-or false b = omega arith
+
+counted-more : (l : List ℕ) (b : ℕ) (w : List ℕ) → counted l (b ∷ w) ≤ hits b l + counted l w
+unfolding counted hits among
+counted-more [] b w = omega arith
+counted-more (c ∷ l) b w = omega (one-or (eqb c b) (among c w), counted-more l b w, arith)
+
+flip : (c d : ℕ) → eqb c d ≡ false → eqb d c ≡ false
+flip c d h = go (eqb d c) refl
+  where
+    go : (t : Bool) → eqb d c ≡ t → t ≡ false
+    go true e = absurd (eqb-false c d h (sym (eqb-true d c e)))
+    go false e = refl
+
+or-left : (a b : Bool) → (a || b) ≡ false → a ≡ false
+or-left false b h = refl
+or-left true b h = h
+
+or-right : (a b : Bool) → (a || b) ≡ false → b ≡ false
+or-right false b h = h
+or-right true b h = absurd (false-true (sym h))
+
+no-hit : (b : ℕ) (l : List ℕ) → among b l ≡ false → hits b l ≡ 0
+unfolding hits among pick
+no-hit b [] h = refl
+no-hit b (c ∷ l) h = rw (flip b c (or-left (eqb b c) (among b l) h), no-hit b l (or-right (eqb b c) (among b l) h))
+
+hit-once : (b c : ℕ) (l : List ℕ) → eqb c b ≡ true → among c l ≡ false → one (eqb c b) + hits b l ≤ 1
+unfolding pick
+hit-once b c l e h =
+    let z : hits b l ≡ 0 = ap (λ d. hits d l) (sym (eqb-true c b e)) ∙ no-hit c l h in
+    rw e (omega (z, arith))
+
+hit-later : (b c : ℕ) (l : List ℕ) → eqb c b ≡ false → hits b l ≤ 1 → one (eqb c b) + hits b l ≤ 1
+unfolding pick
+hit-later b c l e h = rw e (omega (h, arith))
+
+none-counted : (l : List ℕ) → counted l [] ≤ 0
+unfolding counted among pick
+none-counted [] = omega arith
+none-counted (c ∷ l) = omega (none-counted l, arith)
+
+next-short : (t : Bool) (c : ℕ) (r : Read (List ℕ)) (s : List ℕ) → length (r .got) ≤ length s → length ((pick t (before c r) (found [] (c ∷ s))) .got) ≤ suc (length s)
+unfolding pick
+next-short true c r s h = omega (h, arith)
+next-short false c r s h = omega arith
+
+letters-differ : unrepeated (bytes "OSLNMCKBTRJG") ≡ true
+unfolding unrepeated among
+letters-differ = refl
+
+all-counted : (w : List ℕ) → counted (bytes "OSLNMCKBTRJG") w ≤ 4
+    → one (among 79 w) + (one (among 83 w) + (one (among 76 w) + (one false + (one (among 78 w || among 77 w) + (one false + (one (among 67 w || among 75 w) + (one (among 66 w) + (one (among 84 w) + (one (among 82 w) + (one (among 74 w) + one (among 71 w))))))))))) ≤ 4
+unfolding counted pick
+all-counted w h = omega (h, one-or (among 78 w) (among 77 w), one-or (among 67 w) (among 75 w), arith)
+
+one-hit : (b : ℕ) (l : List ℕ) → unrepeated l ≡ true → hits b l ≤ 1
+unfolding hits unrepeated
+one-hit b [] h = omega arith
+one-hit b (c ∷ l) h = go (eqb c b) refl (one-hit b l (and-right (not (among c l)) (unrepeated l) h))
+  where
+    go : (t : Bool) → eqb c b ≡ t → hits b l ≤ 1 → one (eqb c b) + hits b l ≤ 1
+    go true e i = hit-once b c l e (not-true (among c l) (and-left (not (among c l)) (unrepeated l) h))
+    go false e i = hit-later b c l e i
+
+few : (l : List ℕ) (w : List ℕ) → unrepeated l ≡ true → counted l w ≤ length w
+few l [] h = none-counted l
+few l (b ∷ w) h = omega (counted-more l b w, one-hit b l h, few l w h, arith)
+
+-- a field's text is no longer than the field
+span-short : (p : ℕ → Bool) (s : List ℕ) → length ((span p s) .got) ≤ length s
+unfolding span
+span-short p [] = omega arith
+span-short p (c ∷ s) = go (p c) (span-short p s)
+  where
+    go : (t : Bool) → length ((span p s) .got) ≤ length s → length ((pick t (before c (span p s)) (found [] (c ∷ s))) .got) ≤ suc (length s)
+    go t h = next-short t c (span p s) s h
+
+-- AT MOST FOUR
+pub four : (field : List ℕ) → length field ≤ 4 → leb (letterCount (shownLetters (lettersIn field))) 4 ≡ true
+unfolding letterCount shownLetters lettersIn word
+four field h =
+    let w = (span notBlank field) .got in
+    let e : counted (bytes "OSLNMCKBTRJG") w ≤ length w = few (bytes "OSLNMCKBTRJG") w letters-differ in
+    let f = span-short notBlank field in
+    sym (is-le _ 4 (all-counted w (omega (e, f, h, arith))))
