@@ -10,7 +10,7 @@ use lib.ListN.{length, take, drop, length-take}
 use lib.Seq.{take-take}
 use borrow.Author.Tests.{leb-true}
 use Rattle.text.specs.Pick.{pick, among}
-use Rattle.text.specs.Reading.{isDigit}
+use Rattle.text.specs.Reading.{Read, found, before, span, isDigit}
 use Rattle.text.proofs.Texts.{and-left, and-right}
 use Rattle.rules.specs.Columns.{columns, isBlank, justified, digitsFrom, zeroAlone, numeral, numberIn, isNumber, valueOf, between}
 use Rattle.rules.specs.Names.{rootField}
@@ -18,6 +18,20 @@ use Rattle.rules.specs.Line.{volumeIn, alike, nameColumns, isSecurityNumber, is
 use Rattle.rules.specs.declared.Number.{Number}
 use Rattle.rules.specs.declared.Number.the-variants.{Blank, Bad, Is}
 use Rattle.named.proofs.Root.{false-true}
+
+next-short : (t : Bool) (c : ℕ) (r : Read (List ℕ)) (s : List ℕ) → length (r .got) ≤ length s → length ((pick t (before c r) (found [] (c ∷ s))) .got) ≤ suc (length s)
+unfolding pick
+next-short true c r s h = omega (h, arith)
+next-short false c r s h = omega arith
+
+-- a field's text is no longer than the field
+pub span-short : (p : ℕ → Bool) (s : List ℕ) → length ((span p s) .got) ≤ length s
+unfolding span
+span-short p [] = omega arith
+span-short p (c ∷ s) = go (p c) (span-short p s)
+  where
+    go : (t : Bool) → length ((span p s) .got) ≤ length s → length ((pick t (before c (span p s)) (found [] (c ∷ s))) .got) ≤ suc (length s)
+    go t h = next-short t c (span p s) s h
 
 -- ---- a number is below ten to the power of its columns
 

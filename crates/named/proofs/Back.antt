@@ -53,7 +53,7 @@ heads-append : (p : ℕ → Bool) (t u : List ℕ) → heads p t ≡ true → he
 heads-append p [] u h = absurd (false-true h)
 heads-append p (c ∷ t) u h = h
 
-heads-some : (p : ℕ → Bool) (t : List ℕ) → heads p t ≡ true → 1 ≤ length t
+pub heads-some : (p : ℕ → Bool) (t : List ℕ) → heads p t ≡ true → 1 ≤ length t
 heads-some p [] h = absurd (false-true h)
 heads-some p (c ∷ t) h = omega arith
 
@@ -135,7 +135,7 @@ module _ (network : ℕ) (n : List ℕ) (h : NamePlain network n) where
       let e = dotted-part (word (appendageField n)) (appendage-sound network (appendageField n) (and-right q a (and-right p (q && a) l))) in
       sound-append _ _ s (sound-append _ _ (t .0) (e .0) (e .1)) (ends-append _ _ (t .1) (e .1))
 
-  name-parts : (b : Bool) → nameText b n ≡ word (rootField n) ++ (partText (word (suffixField n)) ++ (opt b (partText (word (temporaryField n))) ++ partText (word (appendageField n))))
+  pub name-parts : (b : Bool) → nameText b n ≡ word (rootField n) ++ (partText (word (suffixField n)) ++ (opt b (partText (word (temporaryField n))) ++ partText (word (appendageField n))))
   unfolding nameText
   name-parts b = simp append-assoc
 

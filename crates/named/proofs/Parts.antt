@@ -98,13 +98,13 @@ member-each f [] s h m = absurd (false-true m)
 member-each f (x ∷ l) s h m =
     ⊎-elim (λ e. rw (same-true s x e) (and-left (f x) (each f l) h)) (λ k. member-each f l s (and-right (f x) (each f l) h) k) (either (same s x) (member s l) m)
 
-among-each : (g : ℕ → Bool) (l : List ℕ) (c : ℕ) → all g l ≡ true → among c l ≡ true → g c ≡ true
+pub among-each : (g : ℕ → Bool) (l : List ℕ) (c : ℕ) → all g l ≡ true → among c l ≡ true → g c ≡ true
 unfolding among all
 among-each g [] c h m = absurd (false-true m)
 among-each g (x ∷ l) c h m =
     ⊎-elim (λ e. rw (eqb-true c x e) (and-left (g x) (all g l) h)) (λ k. among-each g l c (and-right (g x) (all g l) h) k) (either (eqb c x) (among c l) m)
 
-front-is : (p s : List ℕ) → starts p s ≡ true → s ≡ p ++ drop (length p) s
+pub front-is : (p s : List ℕ) → starts p s ≡ true → s ≡ p ++ drop (length p) s
 unfolding starts
 front-is [] s h = refl
 front-is (a ∷ p) [] h = absurd (false-true h)

@@ -18,6 +18,7 @@ use Rattle.rules.specs.Shown.{shownLetters}
 use Rattle.rules.specs.declared.Letters.{Letters}
 use Rattle.named.proofs.Root.{false-true}
 use Rattle.compose.specs.Shown.{one, letterCount}
+use Rattle.compose.proofs.Below.{span-short}
 
 -- how many of the letters stand in the text
 counted : List ℕ → List ℕ → ℕ
@@ -74,11 +75,6 @@ unfolding counted among pick
 none-counted [] = omega arith
 none-counted (c ∷ l) = omega (none-counted l, arith)
 
-next-short : (t : Bool) (c : ℕ) (r : Read (List ℕ)) (s : List ℕ) → length (r .got) ≤ length s → length ((pick t (before c r) (found [] (c ∷ s))) .got) ≤ suc (length s)
-unfolding pick
-next-short true c r s h = omega (h, arith)
-next-short false c r s h = omega arith
-
 letters-differ : unrepeated (bytes "OSLNMCKBTRJG") ≡ true
 unfolding unrepeated among
 letters-differ = refl
@@ -100,15 +96,6 @@ one-hit b (c ∷ l) h = go (eqb c b) refl (one-hit b l (and-right (not (among c 
 few : (l : List ℕ) (w : List ℕ) → unrepeated l ≡ true → counted l w ≤ length w
 few l [] h = none-counted l
 few l (b ∷ w) h = omega (counted-more l b w, one-hit b l h, few l w h, arith)
-
--- a field's text is no longer than the field
-span-short : (p : ℕ → Bool) (s : List ℕ) → length ((span p s) .got) ≤ length s
-unfolding span
-span-short p [] = omega arith
-span-short p (c ∷ s) = go (p c) (span-short p s)
-  where
-    go : (t : Bool) → length ((span p s) .got) ≤ length s → length ((pick t (before c (span p s)) (found [] (c ∷ s))) .got) ≤ suc (length s)
-    go t h = next-short t c (span p s) s h
 
 -- AT MOST FOUR
 pub four : (field : List ℕ) → length field ≤ 4 → leb (letterCount (shownLetters (lettersIn field))) 4 ≡ true

@@ -1,0 +1,5 @@
+pub mod Counts
+pub mod Lawful
+pub mod Built
+pub mod Head
+pub mod Again
