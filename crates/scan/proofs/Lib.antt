@@ -1,0 +1,4 @@
+pub mod Bounds
+pub mod Front
+pub mod Volumes
+pub mod Units
