@@ -36,7 +36,7 @@ counted-none k l j a h = record { most = omega arith; within = omega arith; from
 pub counted-one : (k l j : ℕ) (d : Digits) → Counted k l (suc j) d → Counted (suc k) (suc l) j d
 counted-one k l j d h = record { most = omega (arith, h .most); within = omega (arith, h .within); from = omega (arith, h .from); small = h .small }
 
-digit-small : (a j c : ℕ) → a < 10 ^ j → isDigit c ≡ true → 10 * a + (c - 48) < 10 ^ suc j
+pub digit-small : (a j c : ℕ) → a < 10 ^ j → isDigit c ≡ true → 10 * a + (c - 48) < 10 ^ suc j
 digit-small a j c h d = omega (arith, pow-suc 10 j, digit-to c d)
 
 pub digits-counted : (k a j : ℕ) (s : List ℕ) → a < 10 ^ j → Counted k (length s) j (digitsOnto k a j s)

@@ -2,3 +2,4 @@ pub mod Bounds
 pub mod Front
 pub mod Volumes
 pub mod Units
+pub mod Text

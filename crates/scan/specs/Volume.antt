@@ -60,6 +60,13 @@ sharesIn (Hundreds n) = pick (leb n 99) (n * 100) n
 sharesIn (Tens n) = pick (leb n 999) (n * 10) n
 sharesIn (Shares n) = n
 
+-- the figures that show it
+unfoldable pub figuresOf : Volume → ℕ
+figuresOf Unsaid = 0
+figuresOf (Hundreds n) = n
+figuresOf (Tens n) = n
+figuresOf (Shares n) = n
+
 -- the text that shows it
 unfoldable pub saidText : Volume → List ℕ
 saidText Unsaid = []
