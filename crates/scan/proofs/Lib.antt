@@ -3,3 +3,4 @@ pub mod Front
 pub mod Volumes
 pub mod Units
 pub mod Text
+pub mod Shown
