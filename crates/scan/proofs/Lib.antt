@@ -4,3 +4,5 @@ pub mod Volumes
 pub mod Units
 pub mod Text
 pub mod Shown
+pub mod PriceBack
+pub mod VolumeBack

@@ -88,7 +88,7 @@ digits-first (suc k) c s h = go (isDigit c) refl h
         (e, rw (e, n, m))
     go false e l = absurd (omega arith)
 
-keeps-some : (k a j : ℕ) (s : List ℕ) → 1 ≤ a → 1 ≤ (digitsOnto k a j s) .value
+pub keeps-some : (k a j : ℕ) (s : List ℕ) → 1 ≤ a → 1 ≤ (digitsOnto k a j s) .value
 unfolding digitsOnto pick
 keeps-some zero a j s h = h
 keeps-some (suc k) a j [] h = h
