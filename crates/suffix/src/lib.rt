@@ -67,7 +67,7 @@ pub fn is_among(b: u8, text: &[u8]) -> bool
 }
 
 // A text stands at the front of another.
-fn begins(front: &[u8], text: &[u8]) -> bool
+pub fn begins(front: &[u8], text: &[u8]) -> bool
     ensures { λ r. ⌜ r ≡ starts (now (front .entry)) (now (text .entry)) ⌝ }
 {
     let mut i = 0;
@@ -151,7 +151,7 @@ fn is_listed(text: &[u8]) -> bool
 
 // ---- the preferred families, by rule
 
-fn is_letter(b: u8) -> bool
+pub fn is_letter(b: u8) -> bool
     ensures { λ r. ⌜ r ≡ isLetter b ⌝ }
 {
     if 65 <= b {
@@ -231,7 +231,7 @@ fn is_preferred(text: &[u8]) -> bool
     is_preferred_series(text)
 }
 
-fn is_suffix(text: &[u8]) -> bool
+pub fn is_suffix(text: &[u8]) -> bool
     ensures { λ r. ⌜ r ≡ isSuffix (now (text .entry)) ⌝ }
 {
     if is_listed(text) {
@@ -278,7 +278,7 @@ fn is_appendage(network: u64, text: &[u8]) -> bool
     is_appendage_of(network, 66, text, b"DL")
 }
 
-fn is_reserved(root: &[u8]) -> bool
+pub fn is_reserved(root: &[u8]) -> bool
     ensures { λ r. ⌜ r ≡ isReserved (now (root .entry)) ⌝ }
 {
     if text::same_text(root, b"SHRS") {
