@@ -1,0 +1,4 @@
+pub mod Count
+pub mod Ends
+pub mod Heads
+pub mod Bounds
