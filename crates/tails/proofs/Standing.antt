@@ -236,7 +236,7 @@ module _ (s : List ℕ) (u : ℕ) (st : Taken) (b : st .side .letters .g ≡ fal
 -- ---- letters that a step leaves as they were
 
 module _ {A : Type 0} (f : Side → A) (s : List ℕ) (st : Taken) where
-  kept : (t : Bool) (y : Taken) → f (y .side) ≡ f (st .side) → f ((pick t y st) .side) ≡ f (st .side)
+  pub kept : (t : Bool) (y : Taken) → f (y .side) ≡ f (st .side) → f ((pick t y st) .side) ≡ f (st .side)
   unfolding pick
   kept true y h = h
   kept false y h = refl
