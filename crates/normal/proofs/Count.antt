@@ -40,7 +40,7 @@ unfolding counted hits among
 counted-more [] b w = omega arith
 counted-more (c ∷ l) b w = omega (one-or (eqb c b) (among c w), counted-more l b w, arith)
 
-flip : (c d : ℕ) → eqb c d ≡ false → eqb d c ≡ false
+pub flip : (c d : ℕ) → eqb c d ≡ false → eqb d c ≡ false
 flip c d h = go (eqb d c) refl
   where
     go : (t : Bool) → eqb d c ≡ t → t ≡ false

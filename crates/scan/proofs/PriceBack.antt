@@ -37,14 +37,14 @@ onto-digit k a j q s h =
     let e : 48 + q - 48 ≡ q = omega arith in
     rw (digit-yes q h, e)
 
-onto-stop : (k a j : ℕ) (s : List ℕ) → heads isDigit s ≡ false → digitsOnto k a j s ≡ record { count = j; value = a }
+pub onto-stop : (k a j : ℕ) (s : List ℕ) → heads isDigit s ≡ false → digitsOnto k a j s ≡ record { count = j; value = a }
 unfolding digitsOnto pick
 onto-stop zero a j s h = refl
 onto-stop (suc k) a j [] h = refl
 onto-stop (suc k) a j (c ∷ s) h = rw h
 
 -- d places are read, k are left to read
-onto-places : (d k n a j : ℕ) (s : List ℕ) → n < 10 ^ d → digitsOnto (k + d) a j (places d n ++ s) ≡ digitsOnto k (a * 10 ^ d + n) (j + d) s
+pub onto-places : (d k n a j : ℕ) (s : List ℕ) → n < 10 ^ d → digitsOnto (k + d) a j (places d n ++ s) ≡ digitsOnto k (a * 10 ^ d + n) (j + d) s
 unfolding places
 onto-places zero k n a j s h = alike (omega arith) (omega arith) (omega arith)
   where
@@ -61,7 +61,7 @@ onto-places (suc d) k n a j s h =
     alike p q = cc
 
 -- a number is below the power of ten that its digits count
-decimal-below : (n : ℕ) → n < 10 ^ length (decimal n)
+pub decimal-below : (n : ℕ) → n < 10 ^ length (decimal n)
 decimal-below = ten-ind (λ n. n < 10 ^ length (decimal n))
     (λ n h. rw (length-small n h) (omega arith))
     (λ n h ih. rw (length-big n h) (omega (arith, pow-suc 10 (length (decimal (n / 10))))))
@@ -106,7 +106,7 @@ onto-whole w s h =
     alike : {x y x′ y′ : ℕ} → x ≡ x′ → y ≡ y′ → digitsOnto (6 - length (wholeText w)) x y s ≡ digitsOnto (6 - length (wholeText w)) x′ y′ s
     alike p q = cc
 
-decimal-first : (n : ℕ) → 1 ≤ n → (s : List ℕ) → zeroFirst (decimal n ++ s) ≡ false
+pub decimal-first : (n : ℕ) → 1 ≤ n → (s : List ℕ) → zeroFirst (decimal n ++ s) ≡ false
 unfolding zeroFirst
 decimal-first = ten-ind (λ n. 1 ≤ n → (s : List ℕ) → heads (λ c. eqb c 48) (decimal n ++ s) ≡ false)
     (λ n h l s. rw (decimal-small n h) (ne-eqb (48 + n) 48 (λ e. omega arith)))
