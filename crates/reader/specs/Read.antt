@@ -1,4 +1,4 @@
--- The longest normal print at the front of a text (document 01, "Reader"), computed: trades, cancels, errors and corrections. Assumes nothing.
+-- The longest normal print at the front of a text (document 01, "Reader"), computed. Assumes nothing.
 use Prim.Native.Nat.{ℕ, _+_}
 use mathlib.Core.Bool.{Bool, true, false, _&&_, _||_, not}
 use mathlib.Core.List.{List}
@@ -12,6 +12,7 @@ use Rattle.rules.specs.Line.{alike}
 use Rattle.rules.specs.declared.Refusal.{Refusal}
 use Rattle.rules.specs.declared.Refusal.the-variants.{NoPrint}
 use Rattle.rules.specs.declared.Side.{Side}
+use Rattle.announced.specs.Announced.{announcedLength}
 use Rattle.heading.specs.declared.NameRead.{NameRead}
 use Rattle.heading.specs.declared.NameAnswer.{NameAnswer}
 use Rattle.heading.specs.declared.NameAnswer.the-variants.{Named, NoName}
@@ -110,3 +111,21 @@ correctionHead s (Named h) = correctionSide s h (sideAt Alone (h .letters) (h .a
 
 unfoldable pub correctionAt : List ℕ → ReadAnswer
 correctionAt s = correctionHead s (headAt false (drop 7 s))
+
+-- ---- any print
+
+unfoldable pub announcedBy : ℕ → ReadAnswer
+announcedBy n = pick (eqb n 0) (Refused NoPrint) (Announcement n)
+
+-- an announcement begins with three marks, a correction, cancel or error with two and its word
+unfoldable pub printAt : List ℕ → ReadAnswer
+printAt s =
+    pick (starts (bytes "<<<") s) (announcedBy (announcedLength s))
+    (pick (starts (bytes "<<CORR.") s) (correctionAt s)
+    (pick (starts (bytes "<<CXL.") s) (asCancel (cancelAt s))
+    (pick (starts (bytes "<<ERR.") s) (asError (cancelAt s))
+    (tradeAt s))))
+
+-- the print at a place of a tape; past the end there is none
+unfoldable pub readAt : List ℕ → ℕ → ReadAnswer
+readAt tape place = printAt (drop place tape)
