@@ -112,7 +112,19 @@ pub fn is_kind(c: u8) -> bool
 pub fn is_market(c: u8) -> bool
     ensures { λ r. ⌜ r ≡ isMarket c ⌝ }
 {
-    is_among(c, b"ABWMCDTNPX")
+    match c {
+        b'A' => true,
+        b'B' => true,
+        b'W' => true,
+        b'M' => true,
+        b'C' => true,
+        b'D' => true,
+        b'T' => true,
+        b'N' => true,
+        b'P' => true,
+        b'X' => true,
+        _ => false,
+    }
 }
 
 pub fn is_network(c: u8) -> bool
