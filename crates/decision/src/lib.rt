@@ -19,7 +19,7 @@ ghost use Rattle.rules.specs.Trade.{fullAt};
 // ---- a security
 
 // A first-day issue, its primary market, fewer than six such trades before.
-fn six(s: Security, market: u64) -> bool
+pub fn six(s: Security, market: u64) -> bool
     ensures { λ r. ⌜ r ≡ six s market ⌝ }
 {
     if s.first != 1 {
@@ -49,7 +49,7 @@ fn first_qualifying(s: Security, x: Letters) -> bool
 }
 
 // Above the high, or the first.
-fn new_high(s: Security, value: u64) -> bool
+pub fn new_high(s: Security, value: u64) -> bool
     ensures { λ r. ⌜ r ≡ newHigh s value ⌝ }
 {
     if s.high == 0 {
@@ -59,7 +59,7 @@ fn new_high(s: Security, value: u64) -> bool
 }
 
 // Below the low, or the first.
-fn new_low(s: Security, value: u64) -> bool
+pub fn new_low(s: Security, value: u64) -> bool
     ensures { λ r. ⌜ r ≡ newLow s value ⌝ }
 {
     if s.low == 0 {
@@ -70,7 +70,7 @@ fn new_low(s: Security, value: u64) -> bool
 
 // ---- by a price's value
 
-fn new_at(s: Security, value: u64) -> bool
+pub fn new_at(s: Security, value: u64) -> bool
     ensures { λ r. ⌜ r ≡ newAt s value ⌝ }
 {
     if new_high(s, value) {
@@ -94,7 +94,7 @@ pub fn new_range(s: Security, x: Side) -> bool
 }
 
 // A price unlike the last printed, or none printed.
-fn unlike_printed(s: Security, value: u64) -> bool
+pub fn unlike_printed(s: Security, value: u64) -> bool
     ensures { λ r. ⌜ r ≡ unlikePrinted s value ⌝ }
 {
     if s.printed == 0 {
@@ -114,7 +114,7 @@ fn far_above(a: u64, b: u64, m: u64) -> bool
 }
 
 // More than level × 0.05 dollars from the last printed.
-fn far_from_printed(st: Settings, s: Security, value: u64) -> bool
+pub fn far_from_printed(st: Settings, s: Security, value: u64) -> bool
     ensures { λ r. ⌜ r ≡ farFromPrinted st s value ⌝ }
 {
     if s.printed == 0 {
@@ -170,7 +170,7 @@ pub fn ends_in_zero(whole: u64) -> bool
 
 // None printed yet that day, tens or higher differ from the last printed price, whole part ends in 0, unit 1, 1,000 or
 // over, six.
-fn full_at(s: Security, market: u64, whole: u64) -> bool
+pub fn full_at(s: Security, market: u64, whole: u64) -> bool
     ensures { λ r. ⌜ r ≡ fullAt s market whole ⌝ }
 {
     if s.printed == 0 {
@@ -314,7 +314,7 @@ pub fn trade_shows(st: Settings, s: Security, market: u64, x: Side) -> bool
 // ---- high, low and last follow every accepted trade, and each correcting trade
 
 // A price that moves where the trade qualifies and its value is new.
-fn moved(qualifies: bool, new: bool, value: u64, held: u64) -> u64
+pub fn moved(qualifies: bool, new: bool, value: u64, held: u64) -> u64
     ensures { λ r. ⌜ r ≡ pick (qualifies && new) value held ⌝ }
 {
     if !qualifies {
@@ -380,7 +380,7 @@ fn printed_after(st: Settings, s: Security, market: u64, x: Side) -> u64
 }
 
 // A count that stops where it no longer matters.
-fn counted(test: bool, most: u64, count: u64) -> u64
+pub fn counted(test: bool, most: u64, count: u64) -> u64
     requires { ⌜ most < 1000 ⌝ }
     ensures { λ r. ⌜ r ≡ counted test most count ⌝ }
 {

@@ -110,17 +110,20 @@ unfolding nameText
 name-sum b s = simp length-append
 
 -- no name is longer than 22
-pub name-short : (b : Bool) (s : List ℕ) → length s ≡ 19 → length (nameText b s) ≤ 22
-name-short b s h =
+pub name-most : (b : Bool) (s : List ℕ) → length (nameText b s) ≤ 22
+name-most b s =
     let q = part-short (word (suffixField s)) in
     let t = part-short (word (temporaryField s)) in
     let a = part-short (word (appendageField s)) in
     let o = opt-short b (partText (word (temporaryField s))) in
-    let lr : length (rootField s) ≡ 6 = simp (length-take, h) in
-    let ls : length (suffixField s) ≡ 7 = simp (length-take, length-drop, h) in
-    let lt : length (temporaryField s) ≡ 4 = simp (length-take, length-drop, h) in
-    let la : length (appendageField s) ≡ 2 = simp (length-take, length-drop, h) in
+    let lr : length (rootField s) ≤ 6 = omega (arith, length-take 6 s) in
+    let ls : length (suffixField s) ≤ 7 = omega (arith, length-take 7 (drop 6 s)) in
+    let lt : length (temporaryField s) ≤ 4 = omega (arith, length-take 4 (drop 13 s)) in
+    let la : length (appendageField s) ≤ 2 = omega (arith, length-take 2 (drop 17 s)) in
     rw name-sum (omega (arith, word-short (rootField s), word-short (suffixField s), word-short (temporaryField s), word-short (appendageField s)))
+
+pub name-short : (b : Bool) (s : List ℕ) → length s ≡ 19 → length (nameText b s) ≤ 22
+name-short b s h = name-most b s
 
 module _ (b : Bool) (s : List ℕ) (k l m n : ℕ) (w : WordOf (rootField s) k) (x : l ≡ length (partText (word (suffixField s)))) (y : m ≡ length (opt b (partText (word (temporaryField s))))) (z : n ≡ length (partText (word (appendageField s)))) where
   pub counted : k + l + m + n ≡ length (nameText b s)

@@ -1,1 +1,2 @@
 pub mod SideBack
+pub mod Short

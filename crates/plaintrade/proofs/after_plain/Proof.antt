@@ -1,0 +1,45 @@
+use Rattle.plaintrade.proofs.Trades.{after-it}
+use borrow.Author.Needs.{needs}
+use Rattle.plaintrade.proofs.after_plain.Statement.{statement}
+use Rattle.plaintrade.proofs.after_plain.Tie as tie
+
+moved-requires : tie.Need-moved-requires
+moved-requires c κs = search needs
+
+new-high-requires : tie.Need-new-high-requires
+new-high-requires c κs = search needs
+
+moved-requires-2 : tie.Need-moved-requires-2
+moved-requires-2 c κs = search needs
+
+new-low-requires : tie.Need-new-low-requires
+new-low-requires c κs = search needs
+
+moved-requires-3 : tie.Need-moved-requires-3
+moved-requires-3 c κs = search needs
+
+counted-requires : tie.Need-counted-requires
+counted-requires c κs = search needs
+
+counted-requires-2 : tie.Need-counted-requires-2
+counted-requires-2 c κs = search needs
+
+counted-requires-3 : tie.Need-counted-requires-3
+counted-requires-3 c κs = search needs
+
+returns : tie.Need-returns
+returns c = search after-it depth 40 fits 10000
+
+pub after-plain-spec : {M : Type 1} → statement M
+after-plain-spec =
+    tie.close
+    (tie.spec
+    moved-requires
+    new-high-requires
+    moved-requires-2
+    new-low-requires
+    moved-requires-3
+    counted-requires
+    counted-requires-2
+    counted-requires-3
+    returns)

@@ -1,0 +1,194 @@
+// A plain trade, of a volume and a price alone: whether it prints, its print, written straight to the tape, and the security
+// after it. What it does is what `decision` and `trade` say of its side; the letters, days and previous last are not asked.
+use plainline::Plain;
+use rules::Mode;
+use rules::Price;
+use rules::Security;
+use rules::Settings;
+ghost use mathlib.Core.Path.{_≡_};
+ghost use Prim.Native.Nat.{_-_, _≤_, _<_};
+ghost use lib.ListN.{length};
+ghost use Rattle.text.specs.Put.{Written};
+ghost use Rattle.rules.specs.Names.{nameText};
+ghost use Rattle.rules.specs.Trade.{afterTrade};
+ghost use Rattle.table.specs.Rows.{row, withRow, nameOf};
+ghost use Rattle.plainline.specs.Plain.{plainSide};
+ghost use Rattle.plaintrade.specs.Plain.{anyhow, plainRpo, plainMpv, plainPrints, plainFull, plainShows, plainAfter, plainText, plainPrint, tradeText, Ready};
+
+// ---- what prints
+
+// Six; at the level; unit 1.
+fn prints_anyhow(st: Settings, s: Security, market: u64, volume: u64) -> bool
+    ensures { λ r. ⌜ r ≡ anyhow st s market volume ⌝ }
+{
+    if decision::six(s, market) {
+        return true;
+    }
+    if decision::at_level(st, volume) {
+        return true;
+    }
+    s.unit == 1
+}
+
+fn prints_rpo(st: Settings, s: Security, market: u64, volume: u64, value: u64) -> bool
+    ensures { λ r. ⌜ r ≡ plainRpo st s market volume value ⌝ }
+{
+    if decision::new_high(s, value) {
+        return true;
+    }
+    if decision::new_low(s, value) {
+        return true;
+    }
+    if decision::unlike_printed(s, value) {
+        return true;
+    }
+    prints_anyhow(st, s, market, volume)
+}
+
+fn prints_mpv(st: Settings, s: Security, market: u64, volume: u64, value: u64) -> bool
+    ensures { λ r. ⌜ r ≡ plainMpv st s market volume value ⌝ }
+{
+    if decision::far_from_printed(st, s, value) {
+        return true;
+    }
+    if s.qualified == 0 {
+        return true;
+    }
+    prints_anyhow(st, s, market, volume)
+}
+
+fn prints_plain(st: Settings, s: Security, market: u64, volume: u64, value: u64) -> bool
+    ensures { λ r. ⌜ r ≡ plainPrints st s market volume value ⌝ }
+{
+    let mode = st.mode;
+    match mode {
+        Mode::Normal => true,
+        Mode::Dvd => true,
+        Mode::Rpo => prints_rpo(st, s, market, volume, value),
+        Mode::Mpv => prints_mpv(st, s, market, volume, value),
+    }
+}
+
+// The price is printed in full.
+fn is_full(st: Settings, s: Security, market: u64, whole: u64) -> bool
+    ensures { λ r. ⌜ r ≡ plainFull st s market whole ⌝ }
+{
+    let mode = st.mode;
+    if decision::is_normal(mode) {
+        return true;
+    }
+    decision::full_at(s, market, whole)
+}
+
+// The volume is shown.
+fn is_shown(st: Settings, s: Security, market: u64, volume: u64) -> bool
+    ensures { λ r. ⌜ r ≡ plainShows st s market volume ⌝ }
+{
+    let mode = st.mode;
+    if decision::is_normal(mode) {
+        return true;
+    }
+    if decision::at_level(st, volume) {
+        return true;
+    }
+    if s.qualified == 0 {
+        return true;
+    }
+    decision::six(s, market)
+}
+
+// ---- the security after it
+
+fn after_plain(s: Security, market: u64, value: u64, prints: bool) -> Security
+    ensures { λ r. ⌜ r ≡ plainAfter s market value prints ⌝ }
+{
+    Security {
+        unit: s.unit,
+        network: s.network,
+        market: s.market,
+        first: s.first,
+        printed: decision::moved(true, prints, value, s.printed),
+        high: decision::moved(true, decision::new_high(s, value), value, s.high),
+        low: decision::moved(true, decision::new_low(s, value), value, s.low),
+        last: value,
+        trades: decision::counted(true, 5, s.trades),
+        qualified: decision::counted(true, 1, s.qualified),
+        primaries: decision::counted(market == s.market, 6, s.primaries),
+    }
+}
+
+// ---- the print
+
+// The name at a place, with its temporary suffix or without.
+pub fn write_name(buffer: &mut [u8], names: &[u8; 9728], place: usize, temporary: bool) -> usize
+    requires { ⌜ (place < 512) × (22 ≤ length (now buffer)) ⌝ }
+    ensures { λ r. ⌜ Written (nameText temporary (nameOf (now (names .entry)) place)) (now (buffer .entry)) (now (buffer .exit)) r ⌝ }
+{
+    let all = &names[..];
+    let from = place * 19;
+    let to = from + 19;
+    symbol::write_name(buffer, &all[from..to], temporary)
+}
+
+// Name, volume where it is shown, price.
+fn write_text(
+    rest: &mut [u8],
+    names: &[u8; 9728],
+    place: usize,
+    s: Security,
+    full: bool,
+    shows: bool,
+    volume: u64,
+    price: Price,
+) -> usize
+    requires { ⌜ (place < 512) × (1 ≤ s .unit) × (price .d ≤ 8) × (22 ≤ length (now rest)) × (length (plainText (nameOf (now names) place) s full shows volume price) ≤ length (now rest)) ⌝ }
+    ensures { λ r. ⌜ Written (plainText (nameOf (now (names .entry)) place) s full shows volume price) (now (rest .entry)) (now (rest .exit)) r ⌝ }
+{
+    let at = write_name(rest, names, place, qualifying::shows_temporary(s));
+    let at2 = at + trade::write_shown_volume(&mut rest[at..], shows, s.network, s.unit, volume);
+    at2 + prices::write_price(&mut rest[at2..], full, price)
+}
+
+// Where it prints.
+fn write_plain(
+    rest: &mut [u8],
+    names: &[u8; 9728],
+    st: Settings,
+    s: Security,
+    p: Plain,
+    prints: bool,
+) -> usize
+    requires { ⌜ Ready s p × (200 ≤ length (now rest)) ⌝ }
+    ensures { λ r. ⌜ Written (plainPrint st s (now (names .entry)) p prints) (now (rest .entry)) (now (rest .exit)) r ⌝ }
+{
+    if !prints {
+        return 0;
+    }
+    let place = (p.security - 1) as usize;
+    let price = Price { n: p.n, d: p.d };
+    let full = is_full(st, s, p.market, prices::whole_part(price));
+    let shows = is_shown(st, s, p.market, p.volume);
+    write_text(rest, names, place, s, full, shows, p.volume, price)
+}
+
+// ---- the trade
+
+pub fn take_plain(
+    st: Settings,
+    table: &mut [u64; 5632],
+    names: &[u8; 9728],
+    p: Plain,
+    tape: &mut [u8],
+) -> usize
+    requires { ⌜ Ready (row (now table) (p .security - 1)) p × (200 ≤ length (now tape)) ⌝ }
+    ensures { λ r. ⌜ (now (table .exit) ≡ withRow (now (table .entry)) (p .security - 1) (afterTrade st (row (now (table .entry)) (p .security - 1)) (p .market) (plainSide (p .volume) (p .n) (p .d)))) × Written (tradeText st (row (now (table .entry)) (p .security - 1)) (nameOf (now (names .entry)) (p .security - 1)) (p .market) (plainSide (p .volume) (p .n) (p .d))) (now (tape .entry)) (now (tape .exit)) r ⌝ }
+{
+    let place = (p.security - 1) as usize;
+    let s = table::load(table, place);
+    let price = Price { n: p.n, d: p.d };
+    let value = prices::in_units(price);
+    let prints = prints_plain(st, s, p.market, p.volume, value);
+    let after = after_plain(s, p.market, value, prints);
+    table::store(table, place, after);
+    write_plain(tape, names, st, s, p, prints)
+}
