@@ -1,3 +1,4 @@
 pub mod Arms
 pub mod Sound
 pub mod Steps
+pub mod PlainCalls

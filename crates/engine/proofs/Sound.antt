@@ -29,7 +29,7 @@ unfolding pick
 either line true p q h k = h
 either line false p q h k = k refl
 
-has-unit : (s : Security) → not (isEntered s) ≡ false → 1 ≤ s .unit
+pub has-unit : (s : Security) → not (isEntered s) ≡ false → 1 ≤ s .unit
 unfolding isEntered
 has-unit s h = let z = eqb-false (s .unit) 0 (not-true (eqb (s .unit) 0) (not-false (not (eqb (s .unit) 0)) h)) in some (s .unit) z
   where

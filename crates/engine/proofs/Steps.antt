@@ -11,13 +11,10 @@ use borrow.Author.Tests.{lt-ltb, le-ltb, ltb-false}
 use Rattle.text.proofs.Tests.{pick-yes, pick-no}
 use Rattle.text.specs.Put.{put, Written}
 use Rattle.text.specs.Pick.{pick, opt}
-use Rattle.rules.specs.Names.{nameText}
 use Rattle.rules.specs.Side.{sideText}
 use Rattle.rules.specs.Correction.{correctionText}
 use Rattle.rules.specs.declared.Settings.{Settings}
 use Rattle.rules.specs.declared.Refusal.the-variants.{Room}
-use Rattle.symbol.proofs.Text.{name-short}
-use Rattle.table.specs.Rows.{nameOf}
 use Rattle.planner.specs.declared.TradePlan.{TradePlan}
 use Rattle.planner.specs.declared.CorrectionPlan.{CorrectionPlan}
 use Rattle.planner.specs.declared.Plan.{Plan}
@@ -38,22 +35,6 @@ front-length {t} {b} {a} {n} w = w .count-is ∙ ap length (sym (front w))
 -- no longer than the part it was lent
 pub front-short : {t b a : List ℕ} {n : ℕ} (m : ℕ) → Written t b a n → length b ≡ m → length (take n a) ≤ m
 front-short {t} {b} {a} {n} m w e = omega (arith, front-length w, w .within, e)
-
--- ---- the name at a place
-
-module _ (names : List ℕ) (i : ℕ) (temporary : Bool) where
-  slot : take (i * 19 + 19 - i * 19) (drop (i * 19) names) ≡ nameOf names i
-  unfolding nameOf
-  slot = let q : i * 19 + 19 - i * 19 ≡ 19 = omega arith in rw q
-
-  pub slot-length : i < 512 → length names ≡ 9728 → length (take (i * 19 + 19 - i * 19) (drop (i * 19) names)) ≡ 19
-  slot-length h l = rw (length-take, length-drop) (omega arith)
-
-  pub slot-room : (m : ℕ) → i < 512 → length names ≡ 9728 → 22 ≤ m → length (nameText temporary (take (i * 19 + 19 - i * 19) (drop (i * 19) names))) ≤ m
-  slot-room m h l k = omega (arith, name-short temporary (take (i * 19 + 19 - i * 19) (drop (i * 19) names)) (slot-length h l))
-
-  pub slot-written : (b a : List ℕ) (r : ℕ) → Written (nameText temporary (take (i * 19 + 19 - i * 19) (drop (i * 19) names))) b a r → Written (nameText temporary (nameOf names i)) b a r
-  slot-written b a r w = rw (← slot) w
 
 -- ---- a trade's print
 

@@ -1,6 +1,7 @@
 // The engine: one call takes one line. Any bytes of any length are a line; the state is settings by value and two lent tables
 // of fixed size, every value of which has a meaning; the tape is lent, of any length. Nothing is required. The promise is
 // `Taken`: the outcome, the settings, every byte of both tables and every byte of the tape.
+use plainline::Plain;
 use planner::CancelPlan;
 use planner::CorrectionPlan;
 use planner::Plan;
@@ -12,9 +13,8 @@ ghost use mathlib.Core.Path.{_≡_};
 ghost use Prim.Native.Nat.{_≤_, _<_};
 ghost use lib.ListN.{length};
 ghost use Rattle.text.specs.Put.{Written};
-ghost use Rattle.rules.specs.Names.{nameText};
 ghost use Rattle.rules.specs.Day.{opened};
-ghost use Rattle.table.specs.Rows.{nameOf, withName};
+ghost use Rattle.engine.specs.PlainCall.{PlainCall};
 ghost use Rattle.engine.specs.Taken.{SoundPrint, SoundCancel, SoundCorrect, SoundPlan, printedName, printText, cancelled, corrected, textOf, fittedOf, settingsAfter, tableAfter, namesAfter, outcomeOf, Taken};
 
 // Accepted, with the length of its print, 0 where nothing prints; or refused.
@@ -30,16 +30,6 @@ pub struct Answer {
 
 // ---- the name as it prints
 
-fn write_name(buffer: &mut [u8], names: &[u8; 9728], place: usize, temporary: bool) -> usize
-    requires { ⌜ (place < 512) × (22 ≤ length (now buffer)) ⌝ }
-    ensures { λ r. ⌜ Written (nameText temporary (nameOf (now (names .entry)) place)) (now (buffer .entry)) (now (buffer .exit)) r ⌝ }
-{
-    let all = &names[..];
-    let from = place * 19;
-    let to = from + 19;
-    symbol::write_name(buffer, &all[from..to], temporary)
-}
-
 fn write_printed_name(buffer: &mut [u8], names: &[u8; 9728], line: &[u8], p: Plan) -> usize
     requires { ⌜ SoundPlan (now line) p × (22 ≤ length (now buffer)) ⌝ }
     ensures { λ r. ⌜ Written (printedName (now (names .entry)) p) (now (buffer .entry)) (now (buffer .exit)) r ⌝ }
@@ -51,9 +41,9 @@ fn write_printed_name(buffer: &mut [u8], names: &[u8; 9728], line: &[u8], p: Pla
         Plan::Change(_) => 0,
         Plan::Level(_) => 0,
         Plan::Step(_) => 0,
-        Plan::Print(t) => write_name(buffer, names, t.place, t.temporary),
-        Plan::Cancel(t) => write_name(buffer, names, t.place, false),
-        Plan::Correct(c) => write_name(buffer, names, c.place, false),
+        Plan::Print(t) => plaintrade::write_name(buffer, names, t.place, t.temporary),
+        Plan::Cancel(t) => plaintrade::write_name(buffer, names, t.place, false),
+        Plan::Correct(c) => plaintrade::write_name(buffer, names, c.place, false),
     }
 }
 
@@ -281,8 +271,30 @@ pub fn fresh() -> Settings
     opened_on(0)
 }
 
-// One call.
-pub fn take_line(
+// A plain trade whose security is entered, where there is room for any print; the security is 0 where the line is none.
+fn plain_at(st: Settings, table: &[u64; 5632], line: &[u8], room: usize) -> Plain
+    ensures { λ r. ⌜ (1 ≤ r .security → PlainCall st (now (table .entry)) (now (line .entry)) room r) ⌝ }
+{
+    if room < 200 {
+        return plainline::nothing();
+    }
+    if st.date == 0 {
+        return plainline::nothing();
+    }
+    let p = plainline::read_plain(line);
+    if p.security < 1 {
+        return plainline::nothing();
+    }
+    let place = (p.security - 1) as usize;
+    let s = table::load(table, place);
+    if !qualifying::is_entered(s) {
+        return plainline::nothing();
+    }
+    p
+}
+
+// Every line but a plain trade: by its plan.
+fn take_other(
     st: Settings,
     table: &mut [u64; 5632],
     names: &mut [u8; 9728],
@@ -302,4 +314,25 @@ pub fn take_line(
         outcome: outcome_of(p, k),
         settings: settings_after(st, p),
     }
+}
+
+// One call.
+pub fn take_line(
+    st: Settings,
+    table: &mut [u64; 5632],
+    names: &mut [u8; 9728],
+    line: &[u8],
+    tape: &mut [u8],
+) -> Answer
+    ensures { λ r. ⌜ Taken st (now (table .entry)) (now (names .entry)) (now (line .entry)) (now (tape .entry)) (now (table .exit)) (now (names .exit)) (now (tape .exit)) r ⌝ }
+{
+    let p = plain_at(st, table, line, tape.len());
+    if 1 <= p.security {
+        let k = plaintrade::take_plain(st, table, names, p, tape);
+        return Answer {
+            outcome: Outcome::Accepted(k),
+            settings: st,
+        };
+    }
+    take_other(st, table, names, line, tape)
 }

@@ -52,7 +52,7 @@ sound-side side h =
     let q = and-right (isPrice (valueOf (priceIn side)) (valueOf (decimalsIn side))) _ r in
     (sound-price (valueOf (priceIn side)) (valueOf (decimalsIn side)) p, few-decimals (previousIn side) (previousDecimalsIn side) (and-right (passes (leb 1) (daysIn side)) _ q))
 
-sound-trade : (line : List ℕ) → tradeRanged line ≡ true → SoundTrade (tradeOf line)
+pub sound-trade : (line : List ℕ) → tradeRanged line ≡ true → SoundTrade (tradeOf line)
 unfolding tradeRanged tradeOf
 sound-trade line h =
     let n = sound-number _ (and-left (isSecurityNumber _) _ h) in

@@ -1,70 +1,38 @@
-use Rattle.engine.proofs.Sound.{sound-asked}
-use Rattle.engine.proofs.Steps.{front-length, front-short, fitted-sound, fitted-room, taken}
+use native.Mathlib.Omega.{arith}
+use Rattle.engine.proofs.PlainCalls.{plain-ready, plain-taken}
 use borrow.Author.Needs.{needs}
 use Rattle.engine.proofs.take_line.Statement.{statement}
 use Rattle.engine.proofs.take_line.Tie as tie
 
-plan-line-requires : tie.Need-plan-line-requires
-plan-line-requires c κs = search needs
+plain-at-requires : tie.Need-plain-at-requires
+plain-at-requires c κs = search needs
 
-slice-aggregate-write-printed-name : tie.Need-slice-aggregate-write-printed-name
-slice-aggregate-write-printed-name c = search needs
-
-write-printed-name-requires : tie.Need-write-printed-name-requires
-write-printed-name-requires c κs = (search sound-asked, search needs)
-
-array-share-prefix-buffer : tie.Need-array-share-prefix-buffer
-array-share-prefix-buffer c = search needs
-
-slice-aggregate-fitted : tie.Need-slice-aggregate-fitted
-slice-aggregate-fitted c = search front-length
-
-fitted-requires : tie.Need-fitted-requires
-fitted-requires c κs = (search sound-asked, search front-short)
-
-array-share-prefix-buffer-2 : tie.Need-array-share-prefix-buffer-2
-array-share-prefix-buffer-2 c = search needs
-
-slice-aggregate-write-text : tie.Need-slice-aggregate-write-text
-slice-aggregate-write-text c = search front-length
-
-write-text-requires : tie.Need-write-text-requires
-write-text-requires c κs = (search (fitted-sound, sound-asked), search fitted-room)
-
-update-table-requires : tie.Need-update-table-requires
-update-table-requires c κs = search (fitted-sound, sound-asked)
-
-update-names-requires : tie.Need-update-names-requires
-update-names-requires c κs = search (fitted-sound, sound-asked)
-
-outcome-of-requires : tie.Need-outcome-of-requires
-outcome-of-requires c κs = search needs
-
-settings-after-requires : tie.Need-settings-after-requires
-settings-after-requires c κs = search needs
+take-plain-requires : tie.Need-take-plain-requires
+take-plain-requires c κs = let h = c .before .before .before .before .before .plain-at .ensures (omega arith) in (search plain-ready, search needs)
 
 same-length : tie.Need-same-length
 same-length c = search needs
 
 returns : tie.Need-returns
-returns c = search taken
+returns c = let h = c .before .before .before .before .before .before .before .before .plain-at .ensures (omega arith) in search plain-taken
+
+take-other-requires : tie.Need-take-other-requires
+take-other-requires c κs = search needs
+
+same-length-2 : tie.Need-same-length-2
+same-length-2 c = search needs
+
+returns-2 : tie.Need-returns-2
+returns-2 c = search needs
 
 pub take-line-spec : {M : Type 1} → statement M
 take-line-spec =
     tie.close
     (tie.spec
-    plan-line-requires
-    slice-aggregate-write-printed-name
-    write-printed-name-requires
-    array-share-prefix-buffer
-    slice-aggregate-fitted
-    fitted-requires
-    array-share-prefix-buffer-2
-    slice-aggregate-write-text
-    write-text-requires
-    update-table-requires
-    update-names-requires
-    outcome-of-requires
-    settings-after-requires
+    plain-at-requires
+    take-plain-requires
     same-length
-    returns)
+    returns
+    take-other-requires
+    same-length-2
+    returns-2)

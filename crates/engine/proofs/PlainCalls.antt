@@ -1,0 +1,148 @@
+-- The call of a plain trade, put together. Assumes nothing.
+use Prim.Native.Nat.{ℕ, _+_, _-_, _*_, _≤_, _<_}
+use native.Mathlib.Omega.{arith}
+use mathlib.Core.Path.{_≡_, refl, sym, ap, _∙_, subst}
+use mathlib.Core.Bool.{Bool, true, false, _&&_, _||_, not}
+use mathlib.Core.List.{List, []}
+use lib.Dec.{eqb, ltb}
+use lib.ListN.{length}
+use borrow.Author.Tests.{le-ltb, ne-eqb, not-false}
+use Rattle.text.specs.Put.{put, Written}
+use Rattle.text.specs.Pick.{pick, opt, among}
+use Rattle.rules.specs.Columns.{column}
+use Rattle.rules.specs.Conditions.{onNetwork}
+use Rattle.rules.specs.Day.{isEntered}
+use Rattle.rules.specs.Line.{isShaped, isKind, isFormed, isRanged, lineOf, ofKind, tradeFormed, tradeRanged, tradeOf, nameColumns}
+use Rattle.rules.specs.Trade.{afterTrade}
+use Rattle.rules.specs.declared.Line.the-variants.{Traded}
+use Rattle.rules.specs.declared.Parsed.{Parsed}
+use Rattle.rules.specs.declared.Trade.{Trade}
+use Rattle.rules.specs.declared.Settings.{Settings}
+use Rattle.rules.specs.declared.Security.{Security}
+use Rattle.rules.specs.declared.Refusal.the-variants.{Room}
+use Rattle.table.specs.Rows.{row, withRow, nameOf}
+use Rattle.plainline.specs.declared.Plain.{Plain}
+use Rattle.plainline.specs.Plain.{noLetters, plainSide, plainTrade, PlainLine}
+use Rattle.plaintrade.specs.Plain.{tradeText, Ready}
+use Rattle.planner.specs.declared.TradePlan.{TradePlan}
+use Rattle.planner.specs.declared.Plan.{Plan}
+use Rattle.planner.specs.declared.Plan.the-variants.{Stop, Print}
+use Rattle.planner.specs.Plan.{printPlan, unlessStopped, tradePlan, linePlan, readPlan, planOf, SoundTrade}
+use Rattle.planner.proofs.Ranged.{sound-trade}
+use Rattle.engine.proofs.Sound.{has-unit}
+use Rattle.engine.specs.declared.Outcome.the-variants.{Accepted}
+use Rattle.engine.specs.declared.Answer.{Answer}
+use Rattle.engine.specs.PlainCall.{PlainCall}
+use Rattle.engine.specs.Taken.{printedName, printText, textOf, fittedOf, asked, printOf, settingsAfter, tableAfter, namesAfter, outcomeOf, Taken}
+
+-- ---- the line
+
+sound : (line : List ℕ) (p : Plain) → PlainLine line p → SoundTrade (plainTrade p)
+sound line p h = rw (h .trade) at (sound-trade line (h .ranged))
+
+module _ (line : List ℕ) (p : Plain) (read : 1 ≤ p .security → PlainLine line p) (some : 1 ≤ p .security) where
+  pub place-there : p .security - 1 < 512
+  unfolding plainTrade
+  place-there = let q = sound line p (read some) in omega (arith, q .low, q .high)
+
+  pub plain-call : (st : Settings) (table : List ℕ) (room : ℕ) (s : Security) (r : Bool) → 200 ≤ room → (st .date ≡ 0 → ⊥) → s ≡ row table (p .security - 1) → r ≡ isEntered s → not r ≡ false
+      → 1 ≤ p .security → PlainCall st table line room p
+  plain-call st table room s r l d e f g k = record { dated = d; line-is = read some; entered = rw (← e) (sym f ∙ not-false r g); room-is = l }
+
+pub no-call : (st : Settings) (table line : List ℕ) (room : ℕ) (p : Plain) → p .security ≡ 0 → 1 ≤ p .security → PlainCall st table line room p
+no-call st table line room p e h = absurd (omega arith)
+
+of-trade : (line : List ℕ) → column 1 line ≡ 84 → ofKind (column 1 line) line ≡ record { formed = tradeFormed line; ranged = tradeRanged line; line = Traded (tradeOf line) }
+unfolding ofKind pick
+of-trade line e = ap (λ (k : ℕ). ofKind k line) e
+
+-- ---- the plan
+
+and-shut : (b : Bool) → (b && false) ≡ false
+and-shut true = refl
+and-shut false = refl
+
+module _ (st : Settings) (table names line : List ℕ) (room : ℕ) (p : Plain) (h : PlainCall st table line room p) where
+  abbrev s : Security
+  s = row table (p .security - 1)
+
+  abbrev t : TradePlan
+  t = printPlan st s (plainTrade p)
+
+  formed : isFormed line ≡ true
+  unfolding isFormed
+  formed = ap (λ (q : Parsed). q .formed) (of-trade line (h .line-is .kind)) ∙ h .line-is .formed
+
+  ranged : isRanged line ≡ true
+  unfolding isRanged
+  ranged = ap (λ (q : Parsed). q .ranged) (of-trade line (h .line-is .kind)) ∙ h .line-is .ranged
+
+  traded : lineOf line ≡ Traded (plainTrade p)
+  unfolding lineOf
+  traded = ap (λ (q : Parsed). q .line) (of-trade line (h .line-is .kind)) ∙ ap Traded (h .line-is .trade)
+
+  a-kind : isKind (column 1 line) ≡ true
+  unfolding isKind among
+  a-kind = ap isKind (h .line-is .kind)
+
+  unstopped : tradePlan st s (plainTrade p) ≡ Print t
+  unfolding tradePlan unlessStopped plainTrade plainSide noLetters onNetwork pick
+  unstopped = rw (h .entered)
+
+  dated : (not (eqb (column 1 line) 68) && eqb (st .date) 0) ≡ false
+  dated = rw (ne-eqb (st .date) 0 (h .dated)) (and-shut (not (eqb (column 1 line) 68)))
+
+  plan-is : planOf st table names line ≡ Print t
+  unfolding planOf readPlan linePlan plainTrade pick
+  plan-is = rw (h .line-is .shaped, a-kind, dated, formed, ranged, traded) unstopped
+
+pub plain-ready : (st : Settings) (table line : List ℕ) (room : ℕ) (p : Plain) → PlainCall st table line room p → Ready (row table (p .security - 1)) p
+unfolding plainTrade plainSide
+plain-ready st table line room p h =
+    let q = sound line p (h .line-is) in
+    record { low = q .low; high = q .high; unit-is = has-unit (row table (p .security - 1)) (ap not (h .entered)); price-is = q .price }
+
+-- ---- the call
+
+module _ (st : Settings) (table names line tape : List ℕ) (p : Plain) (h : PlainCall st table line (length tape) p) (k : ℕ) (table′ tape′ : List ℕ)
+    (w : Written (tradeText st (row table (p .security - 1)) (nameOf names (p .security - 1)) (p .market) (plainSide (p .volume) (p .n) (p .d))) tape tape′ k) where
+  abbrev plan : Plan
+  plan = Print (printPlan st (row table (p .security - 1)) (plainTrade p))
+
+  text-is : printOf st names plan ≡ tradeText st (row table (p .security - 1)) (nameOf names (p .security - 1)) (p .market) (plainSide (p .volume) (p .n) (p .d))
+  unfolding printOf textOf printedName printText printPlan plainTrade tradeText
+  text-is = refl
+
+  fits : length (printOf st names plan) ≤ length tape
+  fits = omega (arith, ap length text-is, w .count-is, w .within)
+
+  asked-plan : asked st table names line (length tape) ≡ plan
+  unfolding asked fittedOf printOf pick
+  asked-plan = rw (plan-is st table names line (length tape) p h, le-ltb (length tape) (length (printOf st names plan)) fits)
+
+  after-plan : tableAfter table plan ≡ withRow table (p .security - 1) (afterTrade st (row table (p .security - 1)) (p .market) (plainSide (p .volume) (p .n) (p .d)))
+  unfolding tableAfter printPlan plainTrade
+  after-plan = refl
+
+  outcome-plan : (n : ℕ) → Accepted n ≡ outcomeOf plan n
+  unfolding outcomeOf
+  outcome-plan n = refl
+
+  settings-plan : st ≡ settingsAfter st plan
+  unfolding settingsAfter
+  settings-plan = refl
+
+  names-plan : names ≡ namesAfter names line plan
+  unfolding namesAfter
+  names-plan = refl
+
+  pub plain-taken : table′ ≡ withRow table (p .security - 1) (afterTrade st (row table (p .security - 1)) (p .market) (plainSide (p .volume) (p .n) (p .d))) → Taken st table names line tape table′ names tape′ (record { outcome = Accepted k; settings = st })
+  plain-taken e =
+      let is = sym asked-plan in
+      record {
+        outcome = ap Accepted (w .count-is ∙ ap length (sym text-is)) ∙ (outcome-plan (length (printOf st names plan)) ∙ ap (λ (q : Plan). outcomeOf q (length (printOf st names q))) is);
+        settings = settings-plan ∙ ap (settingsAfter st) is;
+        table-is = e ∙ (sym after-plan ∙ ap (tableAfter table) is);
+        names-is = names-plan ∙ ap (namesAfter names line) is;
+        tape-is = w .tape ∙ (ap (λ (z : List ℕ). put z tape) (sym text-is) ∙ ap (λ (q : Plan). put (printOf st names q) tape) is);
+      }
