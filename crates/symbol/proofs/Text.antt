@@ -8,14 +8,14 @@ use mathlib.Core.List.{List, [], _∷_, _++_}
 use lib.ListN.{length, getD, take, drop, length-append, length-take, length-drop}
 use lib.Seq.{length-take-le, take-at}
 use lib.Dec.{eqb}
-use borrow.Author.Tests.{eqb-true, eqb-false}
+use borrow.Author.Tests.{eqb-true, eqb-false, ne-eqb, not-true}
 use Rattle.text.specs.Bytes.{bytes}
 use Rattle.text.specs.Pick.{opt, same}
 use Rattle.text.specs.Put.{put, Written}
 use Rattle.text.proofs.Writing.{written-nothing}
 use Rattle.rules.specs.Tape.{isRaised}
 use Rattle.rules.specs.Columns.{word}
-use Rattle.rules.specs.Names.{rootField, suffixField, temporaryField, appendageField, partText, nameText, hasTemporary}
+use Rattle.rules.specs.Names.{rootField, suffixField, temporaryField, appendageField, partText, nameText, hasTemporary, sameName}
 use Rattle.suffix.specs.Word.{WordOf}
 use Rattle.suffix.proofs.Fields.{word-blank, word-byte, word-nothing}
 use Rattle.suffix.proofs.Lawful.{unlike-nothing}
@@ -145,3 +145,28 @@ cut-length t b a n w = rw (cut-out t b a n w) (w .count-is)
 
 pub same-cut : (t u b c x y : List ℕ) (m n : ℕ) (r : Bool) → Written t b x m → Written u c y n → r ≡ same (take m x) (take n y) → r ≡ same t u
 same-cut t u b c x y m n r v w e = e ∙ rw (cut-out t b x m v, cut-out u c y n w)
+
+-- ---- names that begin with different bytes
+
+begins : (t : Bool) (c : ℕ) (s : List ℕ) → (c ≡ 32 → ⊥) → nameText t (c ∷ s) ≡ c ∷ (word (take 5 s) ++ partText (word (suffixField (c ∷ s))) ++ opt t (partText (word (temporaryField (c ∷ s)))) ++ partText (word (appendageField (c ∷ s))))
+unfolding nameText
+begins t c s h = rw (word-byte c (take 5 s) h)
+
+unlike-begun : (t u : Bool) (a b : List ℕ) → 0 < length a → 0 < length b → (getD a 0 0 ≡ 32 → ⊥) → (getD b 0 0 ≡ 32 → ⊥) → (getD a 0 0 ≡ getD b 0 0 → ⊥) → same (nameText t a) (nameText u b) ≡ false
+unfolding same
+unlike-begun t u [] b l m h k d = absurd (not-suc-le-zero l)
+unlike-begun t u (x ∷ a) [] l m h k d = absurd (not-suc-le-zero m)
+unlike-begun t u (x ∷ a) (y ∷ b) l m h k d = rw (begins t x a h, begins u y b k, ne-eqb x y d)
+
+pub apart : (a b : List ℕ) → length a ≡ 19 → length b ≡ 19 → (getD a 0 0 ≡ 32 → ⊥) → (getD b 0 0 ≡ 32 → ⊥) → not (eqb (getD a 0 0) (getD b 0 0)) ≡ true → sameName a b ≡ false
+unfolding sameName
+apart a b l m h k d =
+    let e = eqb-false (getD a 0 0) (getD b 0 0) (not-true (eqb (getD a 0 0) (getD b 0 0)) d) in
+    let f : (t u : Bool) → same (nameText t a) (nameText u b) ≡ false = λ t u. unlike-begun t u a b (omega arith) (omega arith) h k e in
+    rw (f true true, f true false, f false true, f false false)
+
+pub not-apart : (t : Bool) → false ≡ true → t ≡ false
+not-apart t h = cc
+
+pub told-apart : (r t : Bool) → (r ≡ true → t ≡ false) → r ≡ true → false ≡ t
+told-apart r t f h = sym (f h)

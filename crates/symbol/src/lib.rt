@@ -1,6 +1,7 @@
 // Names of securities as texts (document 01, "Names"): their lengths and writers, and which are the same. A name is the
 // nineteen columns 6 to 24 of an S line: root 6, suffix 7, temporary suffix 4, appendage 2.
 ghost use mathlib.Core.Path.{_≡_};
+ghost use mathlib.Core.Bool.{true, false};
 ghost use mathlib.Core.List.{_++_};
 ghost use Prim.Native.Nat.{_+_, _≤_};
 ghost use lib.ListN.{length};
@@ -19,7 +20,7 @@ pub fn has_temporary(name: &[u8]) -> bool
 {
     let n = suffix::word_length(&name[13..17]);
     if n == 0 {
-        return false;
+        return false; // blank
     }
     true
 }
@@ -129,11 +130,28 @@ fn same_shown(a: &[u8], shown: bool, b: &[u8], other: bool) -> bool
     text::same_text(&first[..m], &second[..n])
 }
 
-// A name, with or without temporary suffix, equals the other's (refusal 9).
+// The names begin with different bytes, so that no text of the one is a text of the other.
+fn begins_apart(a: &[u8], b: &[u8]) -> bool
+    requires { ⌜ (length (now a) ≡ 19) × (length (now b) ≡ 19) ⌝ }
+    ensures { λ r. ⌜ (r ≡ true → sameName (now (a .entry)) (now (b .entry)) ≡ false) ⌝ }
+{
+    if a[0] == 32 {
+        return false;
+    }
+    if b[0] == 32 {
+        return false;
+    }
+    a[0] != b[0]
+}
+
+// A name, with or without temporary suffix, equals the other's (refusal 9). Most differ in their first byte.
 pub fn same_name(a: &[u8], b: &[u8]) -> bool
     requires { ⌜ (length (now a) ≡ 19) × (length (now b) ≡ 19) ⌝ }
     ensures { λ r. ⌜ r ≡ sameName (now (a .entry)) (now (b .entry)) ⌝ }
 {
+    if begins_apart(a, b) {
+        return false;
+    }
     if same_shown(a, true, b, true) {
         return true;
     }
