@@ -38,14 +38,14 @@ module _ (block : List ℕ) (i e : ℕ) where
 
 module _ (block : List ℕ) (from near i : ℕ) (so : near ≡ 0 → lineEnd block (from + i) ≡ lineEnd block from) where
   -- a byte that is none
-  pub near-on : (near′ : ℕ) → near′ ≡ near → from + 32 ≤ length block → i < 32 → (getD block (from + i) 0 ≡ 10 → ⊥) → near′ ≡ 0 → lineEnd block (from + (i + 1)) ≡ lineEnd block from
+  pub near-on : (near′ : ℕ) → near′ ≡ near → from + 100 ≤ length block → i < 100 → (getD block (from + i) 0 ≡ 10 → ⊥) → near′ ≡ 0 → lineEnd block (from + (i + 1)) ≡ lineEnd block from
   near-on near′ e l m h z =
       let a : from + (i + 1) ≡ from + i + 1 = omega arith in
       rw a (end-on block (from + i) (lineEnd block from) (omega arith) h (so (omega arith)))
 
-  -- 32 bytes
-  pub near-all : i ≤ 32 → 32 ≤ i → near ≡ 0 → lineEnd block (from + 32) ≡ lineEnd block from
-  near-all l m z = let e : i ≡ 32 = omega arith in rw e at (so z)
+  -- 100 bytes
+  pub near-all : i ≤ 100 → 100 ≤ i → near ≡ 0 → lineEnd block (from + 100) ≡ lineEnd block from
+  near-all l m z = let e : i ≡ 100 = omega arith in rw e at (so z)
 
 pub near-start : (block : List ℕ) (from near : ℕ) → near ≡ 0 → lineEnd block (from + 0) ≡ lineEnd block from
 near-start block from near z = let e : from + 0 ≡ from = omega arith in rw e
@@ -53,8 +53,8 @@ near-start block from near z = let e : from + 0 ≡ from = omega arith in rw e
 pub near-seen : (block : List ℕ) (from i near : ℕ) → near ≡ 1 → near ≡ 0 → lineEnd block (from + (i + 1)) ≡ lineEnd block from
 near-seen block from i near e z = absurd (omega arith)
 
--- a step of 32 bytes
-pub near-step : (block : List ℕ) (i e near : ℕ) → (near ≡ 0 → lineEnd block (i + 32) ≡ lineEnd block i) → near ≡ 0 → lineEnd block i ≡ e → lineEnd block (i + 32) ≡ e
+-- a step of 100 bytes
+pub near-step : (block : List ℕ) (i e near : ℕ) → (near ≡ 0 → lineEnd block (i + 100) ≡ lineEnd block i) → near ≡ 0 → lineEnd block i ≡ e → lineEnd block (i + 100) ≡ e
 near-step block i e near so z q = so z ∙ q
 
 -- ---- moving to the front

@@ -23,14 +23,14 @@ pub struct Fed {
     pub refusals: usize,
 }
 
-// 0 where no line feed stands in the 32 bytes from `from` on. It looks at all of them, so that they are compared at once.
+// 0 where no line feed stands in the 100 bytes from `from` on. It looks at all of them, so that they are compared at once.
 fn feed_near(block: &[u8], from: usize) -> u8
-    requires { ⌜ from + 32 ≤ length (now block) ⌝ }
-    ensures { λ r. ⌜ (r ≡ 0 → lineEnd (now (block .entry)) (from + 32) ≡ lineEnd (now (block .entry)) from) ⌝ }
+    requires { ⌜ from + 100 ≤ length (now block) ⌝ }
+    ensures { λ r. ⌜ (r ≡ 0 → lineEnd (now (block .entry)) (from + 100) ≡ lineEnd (now (block .entry)) from) ⌝ }
 {
     let mut near: u8 = 0;
     let mut i: usize = 0;
-    while i < 32 {
+    while i < 100 {
         if block[from + i] == 10 {
             near = 1;
         }
@@ -39,19 +39,22 @@ fn feed_near(block: &[u8], from: usize) -> u8
     near
 }
 
-// A place in the same line, near its end.
+// A place in the same line, near its end: the end itself of a line of 100 bytes.
 fn line_near(block: &[u8], from: usize) -> usize
     ensures { λ r. ⌜ lineEnd (now (block .entry)) r ≡ lineEnd (now (block .entry)) from ⌝ }
 {
     let mut i = from;
     while i < block.len() {
-        if block.len() - i < 32 {
+        if block[i] == 10 {
+            return i;
+        }
+        if block.len() - i < 100 {
             return i;
         }
         if feed_near(block, i) != 0 {
             return i;
         }
-        i += 32;
+        i += 100;
     }
     i
 }

@@ -10,10 +10,10 @@ use Rattle.lines.proofs.feed_near.Statement.{statement}
 use Rattle.lines.proofs.feed_near.Tie as tie
 
 abbrev Inv-loop : tie.InvT-loop
-Inv-loop block from near₀ i₀ near i = (i ≤ 32) × (near ≡ 0 → lineEnd block (from + i) ≡ lineEnd block from)
+Inv-loop block from near₀ i₀ near i = (i ≤ 100) × (near ≡ 0 → lineEnd block (from + i) ≡ lineEnd block from)
 
 abbrev μ-loop : tie.MeasureT-loop
-μ-loop block from near₀ i₀ near i = 32 - i
+μ-loop block from near₀ i₀ near i = 100 - i
 
 loop-holds : tie.Need-loop-holds Inv-loop μ-loop
 loop-holds c = (omega arith, search near-start)

@@ -17,17 +17,23 @@ abbrev μ-loop : tie.MeasureT-loop
 loop-holds : tie.Need-loop-holds Inv-loop μ-loop
 loop-holds c = refl
 
-sub-if1 : tie.Need-sub-if1 Inv-loop μ-loop
-sub-if1 c = search needs
+shared-slice-read-if1 : tie.Need-shared-slice-read-if1 Inv-loop μ-loop
+shared-slice-read-if1 c = search needs
 
 returns : tie.Need-returns Inv-loop μ-loop
 returns c = search needs
 
-feed-near-requires : tie.Need-feed-near-requires Inv-loop μ-loop
-feed-near-requires c κs = search needs
+sub-if2 : tie.Need-sub-if2 Inv-loop μ-loop
+sub-if2 c = search needs
 
 returns-2 : tie.Need-returns-2 Inv-loop μ-loop
 returns-2 c = search needs
+
+feed-near-requires : tie.Need-feed-near-requires Inv-loop μ-loop
+feed-near-requires c κs = search needs
+
+returns-3 : tie.Need-returns-3 Inv-loop μ-loop
+returns-3 c = search needs
 
 add-i : tie.Need-add-i Inv-loop μ-loop
 add-i c = search needs
@@ -38,8 +44,8 @@ loop-less c = search needs
 loop-again : tie.Need-loop-again Inv-loop μ-loop
 loop-again c = search near-step
 
-returns-3 : tie.Need-returns-3 Inv-loop μ-loop
-returns-3 c = search needs
+returns-4 : tie.Need-returns-4 Inv-loop μ-loop
+returns-4 c = search needs
 
 pub line-near-spec : {M : Type 1} → statement M
 line-near-spec =
@@ -48,11 +54,13 @@ line-near-spec =
     Inv-loop
     μ-loop
     loop-holds
-    sub-if1
+    shared-slice-read-if1
     returns
-    feed-near-requires
+    sub-if2
     returns-2
+    feed-near-requires
+    returns-3
     add-i
     loop-less
     loop-again
-    returns-3)
+    returns-4)
