@@ -117,6 +117,11 @@ asked-is : (st : Settings) (table names line : List ℕ) (room : ℕ) (p : Plan)
 unfolding asked
 asked-is st table names line room p e = rw e
 
+-- the plan that was fitted under the name that was written
+module _ (st : Settings) (table names line b a : List ℕ) (p q : Plan) (n room : ℕ) where
+  pub asked-for : p ≡ planOf st table names line → Written (printedName names p) b a n → q ≡ fittedOf st (take n a) p room → q ≡ asked st table names line room
+  asked-for e w f = f ∙ (ap (λ (z : List ℕ). fittedOf st z p room) (front w) ∙ asked-is st table names line room p e)
+
 -- ---- the whole call
 
 module _ (st : Settings) (table names line tape table′ names′ tape′ b a : List ℕ) (p q : Plan) (n k : ℕ) (o : Outcome) (s : Settings) where
@@ -125,7 +130,7 @@ module _ (st : Settings) (table names line tape table′ names′ tape′ b a : 
       → Taken st table names line tape table′ names′ tape′ (record { outcome = o; settings = s })
   taken e w f v t m x y =
       let name : take n a ≡ printedName names p = front w in
-      let is : q ≡ asked st table names line (length tape) = f ∙ (ap (λ (z : List ℕ). fittedOf st z p (length tape)) name ∙ asked-is st table names line (length tape) p e) in
+      let is : q ≡ asked st table names line (length tape) = asked-for st table names line b a p q n (length tape) e w f in
       let text : textOf st (take n a) q ≡ printOf st names q = ap (λ (z : List ℕ). textOf st z q) name ∙ plan-print st names p q (length tape) (f ∙ ap (λ (z : List ℕ). fittedOf st z p (length tape)) name) in
       record {
         outcome = x ∙ (ap (outcomeOf q) (v .count-is ∙ ap length text) ∙ ap (λ (z : Plan). outcomeOf z (length (printOf st names z))) is);

@@ -15,7 +15,7 @@ ghost use lib.ListN.{length};
 ghost use Rattle.text.specs.Put.{Written};
 ghost use Rattle.rules.specs.Day.{opened};
 ghost use Rattle.engine.specs.PlainCall.{PlainCall};
-ghost use Rattle.engine.specs.Taken.{SoundPrint, SoundCancel, SoundCorrect, SoundPlan, printedName, printText, cancelled, corrected, textOf, fittedOf, settingsAfter, tableAfter, namesAfter, outcomeOf, Taken};
+ghost use Rattle.engine.specs.Taken.{SoundPrint, SoundCancel, SoundCorrect, SoundPlan, printedName, printText, cancelled, corrected, textOf, fittedOf, asked, settingsAfter, tableAfter, namesAfter, outcomeOf, Taken};
 
 // Accepted, with the length of its print, 0 where nothing prints; or refused.
 pub enum Outcome {
@@ -269,6 +269,22 @@ pub fn fresh() -> Settings
     ensures { λ r. ⌜ r ≡ opened 0 ⌝ }
 {
     opened_on(0)
+}
+
+// What a call asks for that is lent a tape of `room` bytes: its plan, or the refusal that stops it, 13 too.
+pub fn ask_line(
+    st: Settings,
+    table: &[u64; 5632],
+    names: &[u8; 9728],
+    line: &[u8],
+    room: usize,
+) -> Plan
+    ensures { λ r. ⌜ r ≡ asked st (now (table .entry)) (now (names .entry)) (now (line .entry)) room ⌝ }
+{
+    let p = planner::plan_line(st, table, names, line);
+    let mut buffer = [0u8; 22];
+    let n = write_printed_name(&mut buffer, names, line, p);
+    fitted(st, &buffer[..n], line, p, room)
 }
 
 // A plain trade whose security is entered, where there is room for any print; the security is 0 where the line is none.
