@@ -1,0 +1,225 @@
+-- The fact of a line's plan is the one that the rules show. Assumes nothing.
+use Prim.Native.Nat.{ℕ, _+_, _-_, _≤_, _<_}
+use native.Mathlib.Omega.{arith}
+use mathlib.Core.Path.{_≡_, refl, sym, ap, _∙_}
+use mathlib.Core.Bool.{Bool, true, false, _&&_, _||_, not}
+use mathlib.Core.List.{List, []}
+use mathlib.Core.Option.{Option, none, some}
+use lib.Dec.{ltb, eqb}
+use lib.ListN.{length}
+use borrow.Author.Tests.{eqb-false, not-true, not-false}
+use Rattle.text.specs.Pick.{pick, same}
+use Rattle.rules.specs.Names.{hasTemporary}
+use Rattle.rules.specs.Volume.{volumeText}
+use Rattle.rules.specs.Price.{units}
+use Rattle.rules.specs.Columns.{column}
+use Rattle.rules.specs.Line.{isShaped, isKind, isFormed, isRanged, lineOf, ofKind, nameColumns}
+use Rattle.rules.specs.Trade.{isNormal, printsTrade, tradeShows}
+use Rattle.rules.specs.Correction.{printsCorrection}
+use Rattle.rules.specs.Conditions.{onNetwork}
+use Rattle.rules.specs.Day as rules
+use Rattle.rules.specs.Day.{Day, Call, securityAt, nameAt, isEntered, showsTemporary, refusalOf, tapeOf}
+use Rattle.rules.specs.Shown.{Fact, traded, cancelled, erred, corrected, conditionsOf, partOf, shownVolume, tradeFact, announcedIf, factOf, shownBy}
+use Rattle.rules.specs.declared.Listing.{Listing}
+use Rattle.rules.specs.declared.Trade.{Trade}
+use Rattle.rules.specs.declared.Correction.{Correction}
+use Rattle.rules.specs.declared.Line.{Line}
+use Rattle.rules.specs.declared.Line.the-variants.{Dated, Listed, Moded, Leveled, Stepped, Traded, Cancelled, Erred, Corrected}
+use Rattle.rules.specs.declared.Refusal.{Refusal}
+use Rattle.rules.specs.declared.Refusal.the-variants.{Room}
+use Rattle.rules.specs.declared.Settings.{Settings}
+use Rattle.rules.specs.declared.Security.{Security}
+use Rattle.prices.specs.Sound.{Sound}
+use Rattle.table.specs.Rows.{row, nameOf, dayOf}
+use Rattle.table.proofs.Held.{held-security, held-name}
+use Rattle.planner.specs.declared.Plan.{Plan}
+use Rattle.planner.specs.declared.Plan.the-variants.{Stop, Open, Enter, Change, Level, Step, Print, Cancel, Correct}
+use Rattle.planner.specs.Plan as planner
+use Rattle.planner.specs.Plan.{datePlan, listingPlan, unlessStopped, printPlan, tradePlan, cancelOf, cancelPlan, correctionOf, correctionPlan, linePlan, readPlan, planOf, SoundLine}
+use Rattle.planner.proofs.Ranged.{sound-line}
+use Rattle.engine.specs.Taken.{printedName, textOf, fittedOf, asked, printOf}
+use Rattle.calls.specs.Held.{stopOf}
+use Rattle.calls.proofs.Agree.{by-rules}
+use Rattle.facts.specs.Entry.{factIn, showsShares, volumeOf, planFact, SoundSide, SoundTrade, SoundCancel, SoundCorrection, SoundFact}
+use Rattle.facts.specs.declared.Entry.{Entry}
+use Rattle.facts.proofs.Owed.{Small, SmallLine, small-line}
+
+-- where nothing stops
+unless : Option Refusal → Type 0 → Type 0
+unless (some r) A = Unit {0}
+unless none A = A
+
+has-unit : (s : Security) → not (isEntered s) ≡ false → 1 ≤ s .unit
+unfolding isEntered
+has-unit s h = some-of (s .unit) (eqb-false (s .unit) 0 (not-true (eqb (s .unit) 0) (not-false (not (eqb (s .unit) 0)) h)))
+  where
+    some-of : (n : ℕ) → (n ≡ 0 → ⊥) → 1 ≤ n
+    some-of n z = omega arith
+
+-- ---- facts by what the day holds of the security
+
+trade-parts : (day : Day) (t : Trade) (st : Settings) (s : Security) (name : List ℕ) (i : ℕ) → day .settings ≡ st → securityAt day (t .security) ≡ s → nameAt day (t .security) ≡ name → i ≡ t .security
+    → pick (printsTrade st s (t .market) (t .side))
+    (some (traded i (showsTemporary s && hasTemporary name) (units (t .side .price)) (conditionsOf (t .side))
+    (pick (isNormal (st .mode) || (tradeShows st s (t .market) (t .side) && not (same (volumeText (s .network) (s .unit) (t .side .volume)) []))) (some (t .side .volume)) none))) none
+    ≡ factOf day (Traded t)
+unfolding factOf tradeFact shownVolume
+trade-parts day t st s name i e f g h = rw (← e, ← f, ← g, h)
+
+correction-parts : (day : Day) (c : Correction) (st : Settings) (s : Security) (i : ℕ) → day .settings ≡ st → securityAt day (c .security) ≡ s → i ≡ c .security
+    → pick (printsCorrection st s (c .original) (c .correcting))
+    (some (corrected i (partOf (isNormal (st .mode)) (c .original)) (partOf (isNormal (st .mode)) (c .correcting)))) none
+    ≡ factOf day (Corrected c)
+unfolding factOf
+correction-parts day c st s i e f h = rw (← e, ← f, h)
+
+-- ---- each kind
+
+module _ (st : Settings) (table names : List ℕ) where
+  abbrev day : Day
+  day = dayOf st table names
+
+  settled : day .settings ≡ st
+  unfolding dayOf
+  settled = refl
+
+  -- what the line's plan owes, and that its fact is the rules'
+  record Fits (l : Line) (p : Plan) : Type 0 where
+    sound : SoundFact p
+    fact : unless (stopOf p) (planFact st names p ≡ factOf day l)
+
+  stops : (l : Line) (r : Refusal) → Fits l (Stop r)
+  unfolding SoundFact stopOf unless
+  stops l r = record { sound = tt; fact = tt }
+
+  asks : (l : Line) (b : Bool) (r : Refusal) (p : Plan) → (b ≡ false → Fits l p) → Fits l (pick b (Stop r) p)
+  unfolding pick
+  asks l true r p h = stops l r
+  asks l false r p h = h refl
+
+  fits-date : (n : ℕ) → Fits (Dated n) (datePlan st n)
+  unfolding datePlan SoundFact stopOf unless planFact factOf
+  fits-date n = asks _ _ _ _ (λ e. record { sound = tt; fact = refl })
+
+  fits-listing : (name : List ℕ) (l : Listing) → Fits (Listed l) (listingPlan table names name l)
+  unfolding listingPlan SoundFact stopOf unless planFact factOf
+  fits-listing name l = asks _ _ _ _ (λ e. asks _ _ _ _ (λ f. asks _ _ _ _ (λ g. record { sound = tt; fact = refl })))
+
+  module _ (t : Trade) (h : planner.SoundTrade t) (k : t .matched ≡ true → Small (t .side .previous)) where
+    abbrev s : Security
+    s = row table (t .security - 1)
+
+    number : t .security - 1 + 1 ≡ t .security
+    number = omega (arith, h .low)
+
+    stands : securityAt day (t .security) ≡ s
+    stands = held-security st table names (t .security) (h .low) (h .high)
+
+    side-sound : t .matched ≡ true → SoundSide (t .side)
+    side-sound m = record { price-is = h .price; previous-is = record { decimals = h .previous; small = k m } }
+
+    unless-stopped : (l : Line) (p : Plan) → (1 ≤ s .unit → t .matched ≡ true → Fits l p) → Fits l (unlessStopped s t p)
+    unfolding unlessStopped
+    unless-stopped l p f = asks _ _ _ _ (λ e. asks _ _ _ _ (λ g. asks _ _ _ _ (λ m. f (has-unit s e) (not-false (t .matched) m))))
+
+    trade-fact : planFact st names (Print (printPlan st s t)) ≡ factOf day (Traded t)
+    unfolding planFact printPlan volumeOf showsShares
+    trade-fact = trade-parts day t st s (nameOf names (t .security - 1)) (t .security - 1 + 1) settled stands (held-name st table names (t .security) (h .low) (h .high)) number
+
+    fits-trade : Fits (Traded t) (tradePlan st s t)
+    unfolding tradePlan SoundFact printPlan stopOf unless
+    fits-trade = unless-stopped (Traded t) _ (λ u m. record { sound = record { place-is = omega (arith, h .low, h .high); unit-is = u; side-is = side-sound m }; fact = trade-fact })
+
+    cancel-fact : planFact st names (Cancel (cancelOf false st s t)) ≡ factOf day (Cancelled t)
+    unfolding planFact cancelOf factOf pick
+    cancel-fact = rw (number, settled)
+
+    fits-cancel : Fits (Cancelled t) (cancelPlan false st s t)
+    unfolding cancelPlan SoundFact cancelOf stopOf unless
+    fits-cancel = unless-stopped (Cancelled t) _ (λ u m. record { sound = record { place-is = omega (arith, h .low, h .high); side-is = side-sound m }; fact = cancel-fact })
+
+    error-fact : planFact st names (Cancel (cancelOf true st s t)) ≡ factOf day (Erred t)
+    unfolding planFact cancelOf factOf pick
+    error-fact = rw (number, settled)
+
+    fits-error : Fits (Erred t) (cancelPlan true st s t)
+    unfolding cancelPlan SoundFact cancelOf stopOf unless
+    fits-error = unless-stopped (Erred t) _ (λ u m. record { sound = record { place-is = omega (arith, h .low, h .high); side-is = side-sound m }; fact = error-fact })
+
+  module _ (c : Correction) (h : planner.SoundCorrection c) (k : c .matched ≡ true → Small (c .original .previous) × Small (c .correcting .previous)) where
+    abbrev x : Security
+    x = row table (c .security - 1)
+
+    correction-fact : planFact st names (Correct (correctionOf st x c)) ≡ factOf day (Corrected c)
+    unfolding planFact correctionOf
+    correction-fact = correction-parts day c st x (c .security - 1 + 1) settled (held-security st table names (c .security) (h .low) (h .high)) (omega (arith, h .low))
+
+    correction-sound : c .matched ≡ true → SoundFact (Correct (correctionOf st x c))
+    unfolding SoundFact correctionOf
+    correction-sound m =
+        record {
+          place-is = omega (arith, h .low, h .high);
+          original-is = record { price-is = h .original; previous-is = record { decimals = h .original-previous; small = k m .0 } };
+          correcting-is = record { price-is = h .correcting; previous-is = record { decimals = h .correcting-previous; small = k m .1 } };
+        }
+
+    fits-correction : Fits (Corrected c) (correctionPlan st x c)
+    unfolding correctionPlan stopOf unless
+    fits-correction = asks _ _ _ _ (λ e. asks _ _ _ _ (λ f. asks _ _ _ _ (λ m. record { sound = correction-sound (not-false (c .matched) m); fact = correction-fact })))
+
+  -- ---- every kind
+
+  fits-line : (name : List ℕ) (l : Line) → SoundLine l → SmallLine l → Fits l (linePlan st table names name l)
+  unfolding linePlan SoundLine SmallLine SoundFact stopOf unless planFact factOf rules.printOf dayOf
+  fits-line name (Dated n) h k = fits-date n
+  fits-line name (Listed l) h k = fits-listing name l
+  fits-line name (Moded m) h k = record { sound = tt; fact = refl }
+  fits-line name (Leveled n) h k = record { sound = tt; fact = refl }
+  fits-line name (Stepped n) h k = record { sound = tt; fact = refl }
+  fits-line name (Traded t) h k = fits-trade t h k
+  fits-line name (Cancelled t) h k = fits-cancel t h k
+  fits-line name (Erred t) h k = fits-error t h k
+  fits-line name (Corrected c) h k = fits-correction c h k
+
+  -- ---- any line
+
+  module _ (line : List ℕ) (room : ℕ) where
+    fits : Fits (lineOf line) (planOf st table names line)
+    unfolding planOf readPlan isRanged lineOf
+    fits =
+        asks _ _ _ _ (λ e. asks _ _ _ _ (λ f. asks _ _ _ _ (λ g. asks _ _ _ _ (λ h. asks _ _ _ _ (λ i.
+        fits-line (nameColumns line) (lineOf line) (sound-line line (ofKind (column 1 line) line) refl i) (small-line (column 1 line) line (not-false _ i)))))))
+
+    fits-asked : Fits (lineOf line) (asked st table names line room)
+    unfolding asked fittedOf
+    fits-asked = asks _ _ _ _ (λ e. fits)
+
+    pub sound-asked : (p : Plan) → p ≡ asked st table names line room → SoundFact p
+    sound-asked p e = rw e (fits-asked .sound)
+
+    -- a call that stops shows nothing
+    ended : (f : Option Fact) (p : Plan) → unless (stopOf p) (planFact st names p ≡ f) → planFact st names p ≡ elim (stopOf p) [ some r ↦ none | none ↦ f ]
+    unfolding stopOf unless planFact
+    ended f (Stop r) h = refl
+    ended f (Open n) h = h
+    ended f (Enter i s) h = h
+    ended f (Change m) h = h
+    ended f (Level n) h = h
+    ended f (Step n) h = h
+    ended f (Print t) h = h
+    ended f (Cancel t) h = h
+    ended f (Correct c) h = h
+
+    module _ (rows : length table ≡ 5632) (places : length names ≡ 9728) where
+      asked-fact : planFact st names (asked st table names line room) ≡ shownBy day (record { line = line; room = room })
+      unfolding shownBy
+      asked-fact =
+          ended (factOf day (lineOf line)) (asked st table names line room) (fits-asked .fact)
+          ∙ ap (λ (o : Option Refusal). elim o [ some r ↦ none | none ↦ factOf day (lineOf line) ]) (sym (by-rules st table names line room rows places .refusal-is))
+
+      -- an entry that says what the plan asks for says what the rules show
+      pub told : (p : Plan) (r : Entry) → p ≡ asked st table names line room → factIn (printOf st names p) r ≡ planFact st names p
+          → factIn (tapeOf day (record { line = line; room = room })) r ≡ shownBy day (record { line = line; room = room })
+      told p r e h =
+          ap (λ (t : List ℕ). factIn t r) (by-rules st table names line room rows places .print-is)
+          ∙ (ap (λ (q : Plan). factIn (printOf st names q) r) (sym e) ∙ (h ∙ (ap (planFact st names) e ∙ asked-fact)))
