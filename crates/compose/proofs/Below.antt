@@ -17,6 +17,7 @@ use Rattle.rules.specs.Names.{rootField}
 use Rattle.rules.specs.Line.{volumeIn, alike, nameColumns, isSecurityNumber, isUnit}
 use Rattle.rules.specs.declared.Number.{Number}
 use Rattle.rules.specs.declared.Number.the-variants.{Blank, Bad, Is}
+use Rattle.widths.proofs.Below.{number-below}
 use Rattle.named.proofs.Root.{false-true}
 
 next-short : (t : Bool) (c : ℕ) (r : Read (List ℕ)) (s : List ℕ) → length (r .got) ≤ length s → length ((pick t (before c r) (found [] (c ∷ s))) .got) ≤ suc (length s)
@@ -32,56 +33,6 @@ span-short p (c ∷ s) = go (p c) (span-short p s)
   where
     go : (t : Bool) → length ((span p s) .got) ≤ length s → length ((pick t (before c (span p s)) (found [] (c ∷ s))) .got) ≤ suc (length s)
     go t h = next-short t c (span p s) s h
-
--- ---- a number is below ten to the power of its columns
-
-digits-below : (s : List ℕ) (acc : ℕ) → valueOf (digitsFrom acc s) < (acc + 1) * 10 ^ length s
-unfolding digitsFrom pick valueOf isDigit
-digits-below [] acc = omega arith
-digits-below (c ∷ s) acc = go (leb 48 c) (leb c 57) refl (digits-below s (acc * 10 + (c - 48)))
-  where
-    p : 1 ≤ 10 ^ length s
-    p = one-le-pow (length s) 10 (omega arith)
-
-    up : (acc + 1) * 10 * 10 ^ length s ≡ (acc + 1) * 10 ^ suc (length s)
-    up = mul-assoc (acc + 1) 10 (10 ^ length s) ∙ ap (λ (k : ℕ). (acc + 1) * k) (mul-comm 10 (10 ^ length s) ∙ sym (pow-suc 10 (length s)))
-
-    none : 0 < (acc + 1) * 10 ^ suc (length s)
-    none = omega (arith, mul-le-mul-right {m = 1} {n = acc + 1} (10 ^ suc (length s)) (omega arith), one-le-pow (suc (length s)) 10 (omega arith))
-
-    go : (a b : Bool) → leb c 57 ≡ b → valueOf (digitsFrom (acc * 10 + (c - 48)) s) < (acc * 10 + (c - 48) + 1) * 10 ^ length s → valueOf (pick (a && b) (digitsFrom (acc * 10 + (c - 48)) s) Bad) < (acc + 1) * 10 ^ suc (length s)
-    go true true e ih =
-        let l : acc * 10 + (c - 48) + 1 ≤ (acc + 1) * 10 = omega (arith, leb-true c 57 e) in
-        let m : (acc * 10 + (c - 48) + 1) * 10 ^ length s ≤ (acc + 1) * 10 * 10 ^ length s = mul-le-mul-right (10 ^ length s) l in
-        omega (arith, ih, m, up)
-    go true false e ih = none
-    go false b e ih = none
-
-numeral-below : (s : List ℕ) → valueOf (numeral s) < 10 ^ length s
-unfolding numeral zeroAlone pick valueOf
-numeral-below [] = omega arith
-numeral-below (c ∷ s) = go (eqb c 48) s (digits-below (c ∷ s) 0)
-  where
-    p : 1 ≤ 10 ^ suc (length s)
-    p = one-le-pow (suc (length s)) 10 (omega arith)
-
-    go : (b : Bool) (t : List ℕ) → valueOf (digitsFrom 0 (c ∷ s)) < (0 + 1) * 10 ^ suc (length s) → valueOf (pick b (zeroAlone t) (digitsFrom 0 (c ∷ s))) < 10 ^ suc (length s)
-    go true [] h = p
-    go true (d ∷ t) h = p
-    go false t h = omega arith
-
-justified-short : (s : List ℕ) → length (justified s) ≤ length s
-unfolding justified pick
-justified-short [] = omega arith
-justified-short (c ∷ s) = go (isBlank c) (justified-short s)
-  where
-    go : (b : Bool) → length (justified s) ≤ length s → length (pick b (justified s) (c ∷ s)) ≤ suc (length s)
-    go true h = omega arith
-    go false h = omega arith
-
-pub number-below : (k : ℕ) (s : List ℕ) → length s ≤ k → valueOf (numberIn s) < 10 ^ k
-unfolding numberIn
-number-below k s h = omega (arith, numeral-below (justified s), pow-le-pow-right {n = 10} (omega arith) {i = length (justified s)} {j = k} (omega (arith, justified-short s)))
 
 pub volume-below : (side : List ℕ) → valueOf (volumeIn side) < 1000000000
 volume-below side = number-below 9 (columns 1 9 side) (omega (arith, length-take 9 side))

@@ -26,7 +26,8 @@ use Rattle.named.specs.Cut.{oneSold}
 use Rattle.named.proofs.Root.{false-true}
 use Rattle.named.proofs.Letters.{at-most-one, lawful-one-sold}
 use Rattle.compose.specs.Shown.{letterCount, oneDelivery, showable, Showable}
-use Rattle.compose.proofs.Below.{number-below, volume-below}
+use Rattle.widths.proofs.Below.{number-below}
+use Rattle.compose.proofs.Below.{volume-below}
 use Rattle.normal.specs.Shown.{shownSide}
 use Rattle.normal.proofs.Count.{four}
 
