@@ -1,9 +1,9 @@
 -- The fact of a line's plan is the one that the rules show. Assumes nothing.
-use Prim.Native.Nat.{ℕ, _+_, _-_, _≤_, _<_}
+use Prim.Native.Nat.{ℕ, _+_, _-_, _^_, _≤_, _<_}
 use native.Mathlib.Omega.{arith}
 use mathlib.Core.Path.{_≡_, refl, sym, ap, _∙_}
 use mathlib.Core.Bool.{Bool, true, false, _&&_, _||_, not}
-use mathlib.Core.List.{List, []}
+use mathlib.Core.List.{List, [], _∷_}
 use mathlib.Core.Option.{Option, none, some}
 use lib.Dec.{ltb, eqb}
 use lib.ListN.{length}
@@ -15,6 +15,7 @@ use Rattle.rules.specs.Price.{units}
 use Rattle.rules.specs.Columns.{column}
 use Rattle.rules.specs.Line.{isShaped, isKind, isFormed, isRanged, lineOf, ofKind, nameColumns}
 use Rattle.rules.specs.Trade.{isNormal, printsTrade, tradeShows}
+use Rattle.rules.specs.Announcement.{modeText, levelText, stepText}
 use Rattle.rules.specs.Correction.{printsCorrection}
 use Rattle.rules.specs.Conditions.{onNetwork}
 use Rattle.rules.specs.Day as rules
@@ -28,8 +29,10 @@ use Rattle.rules.specs.declared.Line.the-variants.{Dated, Listed, Moded, Levele
 use Rattle.rules.specs.declared.Refusal.{Refusal}
 use Rattle.rules.specs.declared.Refusal.the-variants.{Room}
 use Rattle.rules.specs.declared.Settings.{Settings}
+use Rattle.rules.specs.declared.Side.{Side}
 use Rattle.rules.specs.declared.Security.{Security}
 use Rattle.prices.specs.Sound.{Sound}
+use Rattle.prices.proofs.Texts.{units-small}
 use Rattle.table.specs.Rows.{row, nameOf, dayOf}
 use Rattle.table.proofs.Held.{held-security, held-name}
 use Rattle.planner.specs.declared.Plan.{Plan}
@@ -41,8 +44,9 @@ use Rattle.engine.specs.Taken.{printedName, textOf, fittedOf, asked, printOf}
 use Rattle.calls.specs.Held.{stopOf}
 use Rattle.calls.proofs.Agree.{by-rules}
 use Rattle.facts.specs.Entry.{factIn, showsShares, volumeOf, planFact, SoundSide, SoundTrade, SoundCancel, SoundCorrection, SoundFact}
+use Rattle.facts.specs.Short.{ShortConditions, ShortPart, ShortVolume, ShortFact, ShortShown}
 use Rattle.facts.specs.declared.Entry.{Entry}
-use Rattle.facts.proofs.Owed.{Small, SmallLine, small-line}
+use Rattle.facts.proofs.Owed.{SmallTrade, SmallCorrection, SmallLine, small-line}
 
 -- where nothing stops
 unless : Option Refusal → Type 0 → Type 0
@@ -72,6 +76,49 @@ correction-parts : (day : Day) (c : Correction) (st : Settings) (s : Security) (
     ≡ factOf day (Corrected c)
 unfolding factOf
 correction-parts day c st s i e f h = rw (← e, ← f, h)
+
+-- ---- the numbers of a plan's fact are within their columns
+
+conditions-short : (x : Side) → SoundSide x → ShortConditions (conditionsOf x)
+unfolding conditionsOf
+conditions-short x h = record { days-is = h .days-is; previous-is = units-small (x .previous) (h .previous-is) }
+
+part-short : (normal : Bool) (x : Side) → SoundSide x → ShortPart (partOf normal x)
+unfolding partOf pick ShortPart
+part-short true x h = (units-small (x .price) (h .price-is), (conditions-short x h, h .volume-is))
+part-short false x h = conditions-short x h
+
+volume-short : (b : Bool) (x : Side) → SoundSide x → ShortVolume (pick b (some (x .volume)) none)
+unfolding pick ShortVolume
+volume-short true x h = h .volume-is
+volume-short false x h = tt
+
+announced-short : (t : List ℕ) → ShortShown (announcedIf t)
+unfolding announcedIf ShortShown ShortFact
+announced-short [] = tt
+announced-short (c ∷ s) = tt
+
+-- shown or not
+either-short : (b : Bool) (o u : Option Fact) → ShortShown o → ShortShown u → ShortShown (pick b o u)
+unfolding pick
+either-short true o u h k = h
+either-short false o u h k = k
+
+plan-short : (st : Settings) (names : List ℕ) (p : Plan) → SoundFact p → ShortShown (planFact st names p)
+unfolding planFact SoundFact ShortShown ShortFact volumeOf
+plan-short st names (Stop r) h = tt
+plan-short st names (Open n) h = tt
+plan-short st names (Enter i s) h = tt
+plan-short st names (Change m) h = announced-short (modeText m (st .minimum))
+plan-short st names (Level n) h = announced-short (levelText n)
+plan-short st names (Step n) h = announced-short (stepText (st .mode) n)
+plan-short st names (Print t) h =
+    either-short (t .prints) _ none (omega (arith, h .place-is), (units-small (t .side .price) (h .side-is .price-is), (conditions-short (t .side) (h .side-is), volume-short (showsShares st t) (t .side) (h .side-is)))) tt
+plan-short st names (Cancel t) h =
+    let x = part-short (isNormal (st .mode)) (t .side) (h .side-is) in
+    either-short (t .error) _ _ (omega (arith, h .place-is), x) (omega (arith, h .place-is), x)
+plan-short st names (Correct c) h =
+    either-short (c .prints) _ none (omega (arith, h .place-is), (part-short (isNormal (st .mode)) (c .original) (h .original-is), part-short (isNormal (st .mode)) (c .correcting) (h .correcting-is))) tt
 
 -- ---- each kind
 
@@ -105,7 +152,7 @@ module _ (st : Settings) (table names : List ℕ) where
   unfolding listingPlan SoundFact stopOf unless planFact factOf
   fits-listing name l = asks _ _ _ _ (λ e. asks _ _ _ _ (λ f. asks _ _ _ _ (λ g. record { sound = tt; fact = refl })))
 
-  module _ (t : Trade) (h : planner.SoundTrade t) (k : t .matched ≡ true → Small (t .side .previous)) where
+  module _ (t : Trade) (h : planner.SoundTrade t) (k : SmallTrade t) where
     abbrev s : Security
     s = row table (t .security - 1)
 
@@ -116,7 +163,7 @@ module _ (st : Settings) (table names : List ℕ) where
     stands = held-security st table names (t .security) (h .low) (h .high)
 
     side-sound : t .matched ≡ true → SoundSide (t .side)
-    side-sound m = record { price-is = h .price; previous-is = record { decimals = h .previous; small = k m } }
+    side-sound m = record { price-is = h .price; previous-is = record { decimals = h .previous; small = k .previous-is m }; volume-is = k .side-is .volume-is; days-is = k .side-is .days-is }
 
     unless-stopped : (l : Line) (p : Plan) → (1 ≤ s .unit → t .matched ≡ true → Fits l p) → Fits l (unlessStopped s t p)
     unfolding unlessStopped
@@ -146,7 +193,7 @@ module _ (st : Settings) (table names : List ℕ) where
     unfolding cancelPlan SoundFact cancelOf stopOf unless
     fits-error = unless-stopped (Erred t) _ (λ u m. record { sound = record { place-is = omega (arith, h .low, h .high); side-is = side-sound m }; fact = error-fact })
 
-  module _ (c : Correction) (h : planner.SoundCorrection c) (k : c .matched ≡ true → Small (c .original .previous) × Small (c .correcting .previous)) where
+  module _ (c : Correction) (h : planner.SoundCorrection c) (k : SmallCorrection c) where
     abbrev x : Security
     x = row table (c .security - 1)
 
@@ -159,8 +206,8 @@ module _ (st : Settings) (table names : List ℕ) where
     correction-sound m =
         record {
           place-is = omega (arith, h .low, h .high);
-          original-is = record { price-is = h .original; previous-is = record { decimals = h .original-previous; small = k m .0 } };
-          correcting-is = record { price-is = h .correcting; previous-is = record { decimals = h .correcting-previous; small = k m .1 } };
+          original-is = record { price-is = h .original; previous-is = record { decimals = h .original-previous; small = k .original-previous m }; volume-is = k .original-is .volume-is; days-is = k .original-is .days-is };
+          correcting-is = record { price-is = h .correcting; previous-is = record { decimals = h .correcting-previous; small = k .correcting-previous m }; volume-is = k .correcting-is .volume-is; days-is = k .correcting-is .days-is };
         }
 
     fits-correction : Fits (Corrected c) (correctionPlan st x c)
@@ -223,3 +270,7 @@ module _ (st : Settings) (table names : List ℕ) where
       told p r e h =
           ap (λ (t : List ℕ). factIn t r) (by-rules st table names line room rows places .print-is)
           ∙ (ap (λ (q : Plan). factIn (printOf st names q) r) (sym e) ∙ (h ∙ (ap (planFact st names) e ∙ asked-fact)))
+
+      -- and its numbers are within their columns
+      pub short-shown : ShortShown (shownBy day (record { line = line; room = room }))
+      short-shown = rw (← asked-fact) (plan-short st names (asked st table names line room) (fits-asked .sound))
