@@ -1,0 +1,3 @@
+pub mod Trims
+pub mod Lines
+pub mod Short
