@@ -73,7 +73,7 @@ asked-sound st table names line room =
 -- ---- one link
 
 -- the answer's count is the print's length
-count-is : (st : Settings) (names : List ℕ) (p : Plan) → countOf (outcomeOf p (length (printOf st names p))) ≡ length (printOf st names p)
+pub count-is : (st : Settings) (names : List ℕ) (p : Plan) → countOf (outcomeOf p (length (printOf st names p))) ≡ length (printOf st names p)
 unfolding countOf outcomeOf printOf textOf printedName
 count-is st names (Stop r) = refl
 count-is st names (Open n) = refl
@@ -108,7 +108,7 @@ module _ (s m : State) (c : Lent) (b : List ℕ) (r : Answer) (t : Taken (s .set
   link-day = rw (sym kept ∙ t .settings, t .table-is, t .names-is)
 
   -- from tables that hold a day
-  link-held : (day : Day) → Sized s → dayOf (s .settings) (s .table) (s .names) ≡ day → (take (countOf (r .outcome)) b ≡ tapeOf day (callOf c)) × (dayOf (m .settings) (m .table) (m .names) ≡ after day (callOf c))
+  pub link-held : (day : Day) → Sized s → dayOf (s .settings) (s .table) (s .names) ≡ day → (take (countOf (r .outcome)) b ≡ tapeOf day (callOf c)) × (dayOf (m .settings) (m .table) (m .names) ≡ after day (callOf c))
   link-held day h e =
       let a = by-rules (s .settings) (s .table) (s .names) (c .line) (length (c .tape)) (h .rows) (h .places) in
       rw (← e) (link-tape ∙ sym (a .print-is), link-day ∙ sym (a .day-is))
