@@ -8,6 +8,8 @@ use Rattle.rules.specs.Day.{opened}
 use Rattle.rules.specs.declared.Settings.{Settings}
 use Rattle.lines.specs.declared.Fed.{Fed}
 use Rattle.lines.specs.Feed.{started, blockTaken, Stands}
+use Rattle.showing.specs.declared.Shown.{Shown}
+use Rattle.showing.specs.Shows as shows
 
 -- the first n bytes are n
 pub counted : (n : ℕ) (xs : List ℕ) → n ≤ length xs → n ≡ length (take n xs)
@@ -19,3 +21,10 @@ pub from-fresh : (st : Settings) (block table names tape₀ refusals₀ table′
     → Stands tape₀ refusals₀ (blockTaken (length tape₀) (length refusals₀) block (started st table names number)) table′ names′ tape refusals f
     → Stands tape₀ refusals₀ (blockTaken (length tape₀) (length refusals₀) block (started (opened 0) table names number)) table′ names′ tape refusals f
 from-fresh st block table names tape₀ refusals₀ table′ names′ tape refusals number f e fed = rw e at fed
+
+-- and what it shows
+pub shown-from-fresh : (st : Settings) (block table names facts₀ table′ names′ facts : List ℕ) (s : Shown)
+    → st ≡ opened 0
+    → shows.Stands facts₀ (shows.blockShown (length facts₀) block (shows.started st table names)) table′ names′ facts s
+    → shows.Stands facts₀ (shows.blockShown (length facts₀) block (shows.started (opened 0) table names)) table′ names′ facts s
+shown-from-fresh st block table names facts₀ table′ names′ facts s e stands = rw e at stands

@@ -1,12 +1,15 @@
 // The stored days: the engine runs over each day file of data/, and what it writes is held to the stored answers, the file
-// stdout: for each day its tape, a line feed, and its refused lines. A day file is shorter than 65,536 bytes.
+// stdout: for each day its tape, a line feed, and its refused lines; behind them, for days 01 to 16, the lines of its shown
+// facts. A day file is shorter than 65,536 bytes.
 use libc::STDOUT_FILENO;
 use lines::Fed;
+use showing::Shown;
 ghost use mathlib.Core.Path.{_≡_};
 ghost use Prim.Native.Nat.{_≤_, _<_};
 ghost use lib.ListN.{length, take};
 ghost use Rattle.rules.specs.Day.{opened};
 ghost use Rattle.lines.specs.Feed.{started, blockTaken, Stands};
+ghost use Rattle.showing.specs.Shows as shows;
 ghost use Rattle.vectors.specs.Names.{dayName};
 
 // The name of day n.
@@ -77,6 +80,47 @@ fn show_day(
     write_out(tape, f.tape, refusals, f.refusals)
 }
 
+// The lines of the day's shown facts, from a fresh state.
+fn take_facts(
+    table: &mut [u64; 5632],
+    names: &mut [u8; 9728],
+    day: &[u8],
+    facts: &mut [u8],
+) -> Shown
+    ensures { λ r. ⌜ shows.Stands (now (facts .entry)) (shows.blockShown (length (now (facts .entry))) (now (day .entry)) (shows.started (opened 0) (now (table .entry)) (now (names .entry)))) (now (table .exit)) (now (names .exit)) (now (facts .exit)) r ⌝ }
+{
+    let settings = engine::fresh();
+    showing::show_lines(settings, table, names, day, facts)
+}
+
+// Writes them, of the day that the block's first n bytes are.
+fn show_facts(
+    table: &mut [u64; 5632],
+    names: &mut [u8; 9728],
+    block: &[u8],
+    n: usize,
+    facts: &mut [u8],
+) -> bool
+    requires { ⌜ n ≤ length (now block) ⌝ }
+{
+    let s = take_facts(table, names, &block[..n], facts);
+    let k = s.facts;
+    io::write_all(STDOUT_FILENO, &facts[..k])
+}
+
+// Reads a day file into the block and answers its length, 0 where it cannot be opened.
+fn read_day(path: &[u8], block: &mut [u8; 65536]) -> usize
+    ensures { λ r. ⌜ r ≤ 65536 ⌝ }
+{
+    let fd = os::open_read(path);
+    if fd < 0 {
+        return 0;
+    }
+    let got = io::read_full(fd, block);
+    libc::close(fd);
+    closed(block, got)
+}
+
 // Reads a day file and shows its day; answers false where it cannot be opened or what comes out cannot be written.
 fn run_file(
     path: &[u8],
@@ -86,14 +130,26 @@ fn run_file(
     tape: &mut [u8; 65536],
     refusals: &mut [u8; 65536],
 ) -> bool {
-    let fd = os::open_read(path);
-    if fd < 0 {
+    let n = read_day(path, block);
+    if n == 0 {
         return false;
     }
-    let got = io::read_full(fd, block);
-    libc::close(fd);
-    let n = closed(block, got);
     show_day(table, names, block, n, tape, refusals)
+}
+
+// The same of its shown facts.
+fn run_facts(
+    path: &[u8],
+    table: &mut [u64; 5632],
+    names: &mut [u8; 9728],
+    block: &mut [u8; 65536],
+    facts: &mut [u8; 65536],
+) -> bool {
+    let n = read_day(path, block);
+    if n == 0 {
+        return false;
+    }
+    show_facts(table, names, block, n, facts)
 }
 
 // Days 01 to 16, up to the first that fails.
@@ -108,6 +164,9 @@ fn run_numbered(
     while n <= 16 {
         let name = day_name(n);
         if !run_file(&name, table, names, block, tape, refusals) {
+            return false;
+        }
+        if !run_facts(&name, table, names, block, tape) {
             return false;
         }
         n += 1;

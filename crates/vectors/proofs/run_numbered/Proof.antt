@@ -25,6 +25,15 @@ run-file-requires c κs = search needs
 returns : tie.Need-returns Inv-loop μ-loop
 returns c = search needs
 
+slice-aggregate-run-facts : tie.Need-slice-aggregate-run-facts Inv-loop μ-loop
+slice-aggregate-run-facts c = search needs
+
+run-facts-requires : tie.Need-run-facts-requires Inv-loop μ-loop
+run-facts-requires c κs = search needs
+
+returns-2 : tie.Need-returns-2 Inv-loop μ-loop
+returns-2 c = search needs
+
 add-n : tie.Need-add-n Inv-loop μ-loop
 add-n c = search needs
 
@@ -34,8 +43,8 @@ loop-less c = search needs
 loop-again : tie.Need-loop-again Inv-loop μ-loop
 loop-again c = search needs
 
-returns-2 : tie.Need-returns-2 Inv-loop μ-loop
-returns-2 c = search needs
+returns-3 : tie.Need-returns-3 Inv-loop μ-loop
+returns-3 c = search needs
 
 pub run-numbered-spec : {M : Type 1} → statement M
 run-numbered-spec =
@@ -48,7 +57,10 @@ run-numbered-spec =
     slice-aggregate-run-file
     run-file-requires
     returns
+    slice-aggregate-run-facts
+    run-facts-requires
+    returns-2
     add-n
     loop-less
     loop-again
-    returns-2)
+    returns-3)
