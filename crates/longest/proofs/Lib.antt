@@ -1,2 +1,5 @@
 pub mod Tail
 pub mod TailExact
+pub mod Side
+pub mod Shows
+pub mod Sound

@@ -273,7 +273,7 @@ days-again d X o h =
     let e : 3 ≡ 3 - l + l = omega (short, arith) in
     let g = onto-places l (3 - l) d 0 0 X (decimal-below d) in
     let w : digitsAt 3 (decimal d ++ X) ≡ digitsOnto (3 - l) d l X =
-        ap (λ t. digitsOnto 3 0 0 (t ++ X)) (sym (decimal-places d)) ∙ ap (λ m. digitsOnto m 0 0 (places l d ++ X)) e ∙ g ∙ alike (omega arith) (omega arith) in
+    ap (λ t. digitsOnto 3 0 0 (t ++ X)) (sym (decimal-places d)) ∙ ap (λ m. digitsOnto m 0 0 (places l d ++ X)) e ∙ g ∙ alike (omega arith) (omega arith) in
     record {
       got = digitsOnto (3 - l) d l X;
       read = rw (zero-no (decimal d ++ X) (decimal-first d o X)) w;
@@ -306,6 +306,7 @@ module _ (s : List ℕ) (st : Taken) where
     where
       e : not (eqb ((sellerDays (drop (st .used) s)) .count) 0) ≡ true
       e = and-right (not (st .side .letters .k)) _ (and-right (not (st .side .letters .m)) _ (and-right (ltb (st .count) 4) _ h))
+
       go : (b : Bool) → starts (bytes "SELLER") (drop (st .used) s) ≡ b → b ≡ true
       go true q = refl
       go false q = sym (ap (λ n. not (eqb n 0)) (no-seller (drop (st .used) s) q)) ∙ e

@@ -37,7 +37,6 @@ use Rattle.scan.specs.Price.{priceAt}
 use Rattle.scan.proofs.PriceBack.{onto-stop, onto-places, decimal-below, decimal-first, PriceAgain, price-again}
 use Rattle.tails.specs.declared.Taken.{Taken}
 use Rattle.tails.specs.Tail.{plusCash, plusAverage, plusStopped, plusSeller, plusRule, plusPrevious, sideWith, further, takesCash, cashAt, takesAverage, averageAt, takesStopped, stoppedAt, sellerDays, sellerAt, takesRule, ruleAt, closedBy, previousIn, previousBy, previousAt, afterPriceAt, atEndAt, tailAt}
-
 use Rattle.longest.proofs.Tail.{takesSeller, soldBy, seller-as, fromPrevious, fromRule, fromSeller, fromStopped, fromAverage, sizePrevious, sizeRule, sizeSeller, sizeStopped, sizeAverage, dropped, dropped-all, used-is, count-is, room, DaysAgain, days-again, PreviousAgain, previous-again, cash-yes, average-yes, stopped-yes, rule-yes, seller-yes, previous-there, previous-on, cash-back, average-back, stopped-back, rule-back, seller-back, withCash, withAverage, withStopped, withRule, withSeller, withPrevious, May}
 
 -- no condition but a previous last stands here, and no digit

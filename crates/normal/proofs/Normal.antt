@@ -192,7 +192,7 @@ module _ (day : Day) (line : List ℕ) (a : Lists day line) where
 
 -- ---- equal texts, names and facts
 
-printable-as : {t t′ n n′ : List ℕ} {f f′ : ReadFact} → Printable t n f → t ≡ t′ → n ≡ n′ → f ≡ f′ → Printable t′ n′ f′
+pub printable-as : {t t′ n n′ : List ℕ} {f f′ : ReadFact} → Printable t n f → t ≡ t′ → n ≡ n′ → f ≡ f′ → Printable t′ n′ f′
 printable-as p a b c = rw (← a, ← b, ← c) p
 
 factIn : Option Fact → Fact

@@ -26,7 +26,7 @@ module _ {A : Type 0} (f : Side → A) where
   by-previous-keeps st h NoPrice = refl
   by-previous-keeps st h (Priced p) = h (p .price)
 
-  previous-keeps : (s : List ℕ) (st : Taken) → ((p : Price) → f (sideWith (st .side) (plusPrevious (st .side .letters)) (st .side .days) p) ≡ f (st .side)) → f ((previousAt s st) .side) ≡ f (st .side)
+  pub previous-keeps : (s : List ℕ) (st : Taken) → ((p : Price) → f (sideWith (st .side) (plusPrevious (st .side .letters)) (st .side .days) p) ≡ f (st .side)) → f ((previousAt s st) .side) ≡ f (st .side)
   unfolding previousAt
   previous-keeps s st h = kept f s st _ (previousBy st (previousIn (drop (st .used) s))) (by-previous-keeps st h (previousIn (drop (st .used) s)))
 

@@ -1,0 +1,144 @@
+-- What the reader answers is a normal print of that length, with that name and those facts. Assumes nothing.
+use Prim.Native.Nat.{ℕ, zero, suc, _+_, _-_, _*_, _^_, _≤_, _<_}
+use native.Mathlib.Nat.{zero-add}
+use native.Mathlib.Omega.{arith}
+use mathlib.Core.Path.{_≡_, refl, sym, ap, _∙_, subst}
+use mathlib.Core.Logic.{_⊎_, inl, inr, ⊎-elim}
+use mathlib.Core.Bool.{Bool, true, false, _&&_, _||_, not}
+use mathlib.Core.List.{List, [], _∷_, _++_, append-assoc, append-nil}
+use lib.Dec.{eqb, leb, ltb}
+use borrow.Author.Tests.{eqb-true}
+use mathlib.Core.Option.{Option, none, some}
+use lib.ListN.{length, take, drop, length-append, length-take, length-drop}
+use lib.Seq.{drop-drop}
+use Rattle.text.specs.Bytes.{bytes}
+use Rattle.text.specs.Pick.{pick, opt, among}
+use Rattle.text.proofs.Texts.{and-left, and-right}
+use Rattle.text.proofs.Tests.{is-lt, is-le}
+use Rattle.rules.specs.Columns.{between}
+use Rattle.rules.specs.Price.{priceText, units}
+use Rattle.rules.specs.Volume.{volumeText}
+use Rattle.rules.specs.Conditions.{onNetwork}
+use Rattle.rules.specs.Side.{tailText}
+use Rattle.rules.specs.Line.{isPrice, isUnit, isNetwork}
+use Rattle.rules.specs.declared.Letters.{Letters}
+use Rattle.rules.specs.declared.Price.{Price}
+use Rattle.rules.specs.declared.Side.{Side}
+use Rattle.prices.specs.Sound.{Sound}
+use Rattle.named.specs.Cut.{oneSold}
+use Rattle.named.proofs.Root.{false-true, either}
+use Rattle.compose.specs.Shown.{letterCount, oneDelivery, showable, Showable}
+use Rattle.scan.specs.declared.PriceRead.{PriceRead}
+use Rattle.scan.specs.declared.PriceAnswer.{PriceAnswer}
+use Rattle.scan.specs.declared.PriceAnswer.the-variants.{Priced, NoPrice}
+use Rattle.scan.specs.declared.Volume.{Volume}
+use Rattle.scan.specs.declared.Volume.the-variants.{Unsaid, Hundreds, Tens, Shares}
+use Rattle.scan.specs.declared.VolumeRead.{VolumeRead}
+use Rattle.scan.specs.declared.VolumeAnswer.{VolumeAnswer}
+use Rattle.scan.specs.declared.VolumeAnswer.the-variants.{Said, NoVolume}
+use Rattle.scan.specs.Price.{priceAt}
+use Rattle.scan.specs.Volume.{volumeAt, sharesIn, figuresOf, saidText, explains, explainsBoth, explained}
+use Rattle.scan.proofs.Text.{PriceFound, price-found}
+use Rattle.scan.proofs.Shown.{VolumeFound, volume-found, explained-text, explained-some, shares-small}
+use Rattle.heading.specs.Head.{lettersAfter}
+use Rattle.tails.specs.declared.Taken.{Taken}
+use Rattle.tails.specs.Tail.{plusCash, plusAverage, plusStopped, plusSeller, plusRule, plusPrevious, sideWith as tails·sideWith, cashAt, averageAt, stoppedAt, sellerAt, ruleAt, previousAt, afterPriceAt, atEndAt, tailAt}
+use Rattle.tails.proofs.Standing.{cash-keeps, average-keeps, stopped-keeps, seller-keeps, rule-keeps, Bare, tail-text, tail-from, tail-within}
+use Rattle.tails.proofs.Lawful.{one as tails·one, letterCount as tails·letterCount, Lawful, bare-lawful, tail-lawful}
+use Rattle.tails.proofs.Kept.{previous-keeps, Explained, tail-explained, tail-volume, tail-price, tail-o, tail-s, tail-l, tail-n, tail-m, tail-c}
+use Rattle.sideread.specs.declared.Beside.{Beside}
+use Rattle.sideread.specs.declared.Beside.the-variants.{Alone, With}
+use Rattle.sideread.specs.declared.SideRead.{SideRead}
+use Rattle.sideread.specs.declared.SideAnswer.{SideAnswer}
+use Rattle.sideread.specs.declared.SideAnswer.the-variants.{Sided, NoSide}
+use Rattle.sideread.specs.Side.{headCount, beside, sidedBy, sideWith, saidSide, orElse, sideAt}
+use Rattle.text.specs.Pick.{all}
+use Rattle.text.specs.Reading.{starts}
+use Rattle.rules.specs.Names.{nameText}
+use Rattle.rules.specs.Conditions.{afterName}
+use Rattle.rules.specs.Side.{headText, sideText}
+use Rattle.rules.specs.Shown.{conditionsOf}
+use Rattle.rules.specs.NormalPrint.{ReadFact, readTrade}
+use Rattle.compose.specs.Shown.{Enterable}
+use Rattle.compose.specs.Printable.{partIn, Printable, by-trade}
+use Rattle.heading.specs.Name.{nameOn}
+use Rattle.heading.specs.Head.{headAt}
+use Rattle.heading.specs.declared.NameRead.{NameRead}
+use Rattle.heading.specs.declared.NameAnswer.{NameAnswer}
+use Rattle.heading.specs.declared.NameAnswer.the-variants.{Named, NoName}
+use Rattle.nameable.proofs.Built.{Built, name-built}
+use Rattle.nameable.proofs.Head.{HeadTold, head-told}
+use Rattle.reader.specs.declared.PrintRead.{PrintRead}
+use Rattle.reader.specs.declared.ReadAnswer.{ReadAnswer}
+use Rattle.reader.specs.declared.ReadAnswer.the-variants.{Announcement, Trade, Cancel, Error, Correction, Refused}
+use Rattle.rules.specs.declared.Refusal.the-variants.{NoPrint}
+use Rattle.reader.specs.Read.{tradeSide, tradeHead, tradeAt}
+use Rattle.normal.proofs.Normal.{printable-as}
+use Rattle.longest.proofs.Side.{Unit, Headed, SideTold, side-told, two-fronts}
+use Rattle.longest.proofs.Shows.{Explains, explains-side}
+
+-- ---- heads
+
+-- the letters after a name are those only
+pub headed : (x : Letters) → oneSold x ≡ true → x ≡ lettersAfter (x .m) (x .o) (x .s) (x .l) → Headed x
+unfolding lettersAfter
+headed x o e = record {
+  bare = record { no-c = ap (λ y. y .c) e; no-k = ap (λ y. y .k) e; no-b = ap (λ y. y .b) e; no-t = ap (λ y. y .t) e; no-r = ap (λ y. y .r) e; no-j = ap (λ y. y .j) e; no-g = ap (λ y. y .g) e };
+  no-n = ap (λ y. y .n) e;
+  sold = o;
+}
+
+after-same : (x y : Letters) → x .o ≡ y .o → x .s ≡ y .s → x .l ≡ y .l → x .m ≡ y .m → x .n ≡ false → y .n ≡ false → afterName x ≡ afterName y
+unfolding afterName
+after-same x y o s l m n k = rw (o, s, l, m, n, k)
+
+-- ---- a side's text is what stands behind its head
+
+module _ (first : Beside) (letters : Letters) (a b : Bool) (part : List ℕ) (x : SideRead) (h : Headed letters) (t : SideTold first letters a b part x) where
+  pub side-text : (text : List ℕ) (network unit : ℕ) → explains network unit (x .volume) ≡ true → sideText text network unit true true (x .taken .side) ≡ (text ++ afterName letters) ++ take (x .taken .used) part
+  unfolding sideText headText opt
+  side-text text network unit e =
+      let y = x .taken .side in
+      let f : afterName (y .letters) ≡ afterName letters = after-same (y .letters) letters (t .o-kept) (t .s-kept) (t .l-kept) (t .m-kept) (t .no-n) (h .no-n) in
+      let v : volumeText network unit (y .volume) ≡ saidText (x .volume) = ap (volumeText network unit) (t .shares) ∙ explained-text network unit (x .volume) e in
+      let q = text ++ afterName letters in
+      ap (λ z. (((text ++ z) ++ volumeText network unit (y .volume)) ++ priceText true (y .price)) ++ tailText y) f
+      ∙ ap (λ z. ((q ++ z) ++ priceText true (y .price)) ++ tailText y) v
+      ∙ append-assoc (q ++ saidText (x .volume)) (priceText true (y .price)) (tailText y)
+      ∙ append-assoc q (saidText (x .volume)) (priceText true (y .price) ++ tailText y)
+      ∙ ap (λ z. q ++ z) (sym (t .text))
+
+picked-a : (network : ℕ) → eqb network 65 ≡ true → (a b : Bool) → pick (eqb network 65) a b ≡ true → a ≡ true
+unfolding pick
+picked-a network q a b e = ap (λ t. pick t a b) (sym q) ∙ e
+
+picked-b : (network : ℕ) → eqb network 66 ≡ true → (a b : Bool) → pick (eqb network 65) a b ≡ true → b ≡ true
+unfolding pick
+picked-b network r a b e = ap (λ n. pick (eqb n 65) a b) (sym (eqb-true network 66 r)) ∙ e
+
+-- a name that the head found, on the network
+pub on-network : (temporary : Bool) (s : List ℕ) (h : NameRead) (network : ℕ) → HeadTold temporary s h → isNetwork network ≡ true → pick (eqb network 65) (h .a) (h .b) ≡ true → nameOn temporary network (take (h .length) s) ≡ true
+unfolding isNetwork among
+on-network temporary s h network t n e =
+    ⊎-elim (λ q. ap (λ k. nameOn temporary k (take (h .length) s)) (eqb-true network 65 q) ∙ sym (t .on-a) ∙ picked-a network q (h .a) (h .b) e)
+    (λ q. ⊎-elim (λ r. ap (λ k. nameOn temporary k (take (h .length) s)) (eqb-true network 66 r) ∙ sym (t .on-b) ∙ picked-b network r (h .a) (h .b) e) (λ r. absurd (false-true r)) (either (eqb network 66) false q))
+    (either (eqb network 65) (eqb network 66 || false) n)
+
+-- ---- trades
+
+module _ (s : List ℕ) (h : NameRead) (k : HeadTold true s h) (x : SideRead) (e : sideAt Alone (h .letters) (h .a) (h .b) (drop (h .used) s) ≡ Sided x) where
+  trade-printable : Printable (take (h .used + x .taken .used) s) (take (h .length) s) (readTrade (units (x .taken .side .price)) (conditionsOf (x .taken .side)) (some (x .taken .side .volume)))
+  trade-printable =
+      let d = headed (h .letters) (k .sold) (k .only) in
+      let t = side-told Alone (h .letters) (h .a) (h .b) (drop (h .used) s) d x e in
+      let w = explains-side Alone (h .letters) (h .a) (h .b) (drop (h .used) s) x d t in
+      let b = name-built true (w .network) (take (h .length) s) (w .is-network) (on-network true s h (w .network) k (w .is-network) (w .allowed)) in
+      let u = w .unit-there in
+      printable-as
+      (by-trade (w .network) (u .unit) (b .name) (x .taken .side) (record { on = w .is-network; trades-in = u .lawful; plain = b .plain; sized = b .sized; printable = b .printable }) (w .shows))
+      (ap (λ z. sideText z (w .network) (u .unit) true true (x .taken .side)) (b .shown)
+      ∙ side-text Alone (h .letters) (h .a) (h .b) (drop (h .used) s) x d t (take (h .length) s) (w .network) (u .unit) (u .second)
+      ∙ ap (λ z. z ++ take (x .taken .used) (drop (h .used) s)) (sym (k .text))
+      ∙ sym (two-fronts s (h .used) (x .taken .used)))
+      (b .shown)
+      refl
