@@ -197,14 +197,14 @@ isSide : SideAnswer → Bool
 isSide (Sided x) = true
 isSide NoSide = false
 
-no-side : (x : SideRead) → NoSide ≡ Sided x → ⊥
+pub no-side : (x : SideRead) → NoSide ≡ Sided x → ⊥
 unfolding isSide
 no-side x e = false-true (ap isSide e)
 
-anySide : SideRead
+abbrev pub anySide : SideRead
 anySide = record { volume = Unsaid; taken = record { side = record { volume = 0; price = record { n = 0; d = 0 }; letters = lettersAfter false false false false; days = 0; previous = record { n = 0; d = 0 } }; used = 0; count = 0; a = false; b = false } }
 
-sideIn : SideAnswer → SideRead
+unfoldable pub sideIn : SideAnswer → SideRead
 sideIn (Sided x) = x
 sideIn NoSide = anySide
 

@@ -524,3 +524,7 @@ module _ (s : List ℕ) where
           let u = used-is k (bytes ",c") st (sideWith (st .side) (plusCash (st .side .letters)) (st .side .days) (st .side .previous)) 2 (st .a) (st .b) refl in
           let l = covers-average (pick k (withCash s st) st) b t r d j g q R (ap (λ i. drop i s) u ∙ dropped s (bytes ",c") (fromAverage b t r d j g q R) (st .used) k e) (cash-may st k b t r d j g q m x) in
           rw w (omega (l, u, arith))
+
+  pub tail-forward : (st : Taken) → st .used ≤ (tailAt s st) .used
+  unfolding tailAt afterPriceAt
+  tail-forward st = omega (cash-on s st, average-on s (cashAt s st), stopped-on s (averageAt s (cashAt s st)), end-on (stoppedAt s (averageAt s (cashAt s st))), arith)
