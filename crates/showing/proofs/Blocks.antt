@@ -18,7 +18,7 @@ use Rattle.showing.specs.declared.Shown.{Shown}
 -- ---- the equations of `linesShown`
 
 module _ (room : ℕ) (l : List ℕ) (ls : List (List ℕ)) (p : Progress) where
-  shown-on : 386 ≤ room - length (p .facts) → linesShown room (l ∷ ls) p ≡ linesShown room ls (lineShown l p)
+  pub shown-on : 386 ≤ room - length (p .facts) → linesShown room (l ∷ ls) p ≡ linesShown room ls (lineShown l p)
   unfolding linesShown
   shown-on h = rw (le-leb 386 (room - length (p .facts)) h, linesShown)
 
@@ -26,7 +26,7 @@ module _ (room : ℕ) (l : List ℕ) (ls : List (List ℕ)) (p : Progress) where
   unfolding linesShown
   shown-off h = rw (lt-leb 386 (room - length (p .facts)) h, linesShown)
 
-shown-none : (room : ℕ) (p : Progress) → linesShown room [] p ≡ p
+pub shown-none : (room : ℕ) (p : Progress) → linesShown room [] p ≡ p
 unfolding linesShown
 shown-none room p = refl
 

@@ -1,2 +1,4 @@
 pub mod Calls
 pub mod Blocks
+pub mod Whole
+pub mod Fresh
