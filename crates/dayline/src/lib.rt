@@ -53,7 +53,7 @@ fn trade_ranged(security: u64, sides: bool) -> bool
 }
 
 // The fields of a T, X or E line.
-fn read_trade(line: &[u8]) -> TradeRead
+pub fn read_trade(line: &[u8]) -> TradeRead
     requires { ⌜ length (now line) ≡ 100 ⌝ }
     ensures { λ r. ⌜ r ≡ tradeRead (now (line .entry)) ⌝ }
 {

@@ -32,7 +32,7 @@ use Rattle.planner.proofs.Ranged.{sound-trade}
 use Rattle.engine.proofs.Sound.{has-unit}
 use Rattle.engine.specs.declared.Outcome.the-variants.{Accepted}
 use Rattle.engine.specs.declared.Answer.{Answer}
-use Rattle.engine.specs.PlainCall.{PlainCall}
+use Rattle.engine.specs.Calls.{PlainCall}
 use Rattle.engine.specs.Taken.{printedName, printText, textOf, fittedOf, asked, printOf, settingsAfter, tableAfter, namesAfter, outcomeOf, Taken}
 
 -- ---- the line
@@ -45,24 +45,24 @@ module _ (line : List ℕ) (p : Plain) (read : 1 ≤ p .security → PlainLine l
   unfolding plainTrade
   place-there = let q = sound line p (read some) in omega (arith, q .low, q .high)
 
-  pub plain-call : (st : Settings) (table : List ℕ) (room : ℕ) (s : Security) (r : Bool) → 200 ≤ room → (st .date ≡ 0 → ⊥) → s ≡ row table (p .security - 1) → r ≡ isEntered s → not r ≡ false
-      → 1 ≤ p .security → PlainCall st table line room p
-  plain-call st table room s r l d e f g k = record { dated = d; line-is = read some; entered = rw (← e) (sym f ∙ not-false r g); room-is = l }
+  pub plain-call : (st : Settings) (table : List ℕ) (s : Security) (r : Bool) → (st .date ≡ 0 → ⊥) → s ≡ row table (p .security - 1) → r ≡ isEntered s → not r ≡ false
+      → 1 ≤ p .security → PlainCall st table line p
+  plain-call st table s r d e f g k = record { dated = d; line-is = read some; entered = rw (← e) (sym f ∙ not-false r g) }
 
-pub no-call : (st : Settings) (table line : List ℕ) (room : ℕ) (p : Plain) → p .security ≡ 0 → 1 ≤ p .security → PlainCall st table line room p
-no-call st table line room p e h = absurd (omega arith)
+pub no-call : (st : Settings) (table line : List ℕ) (p : Plain) → p .security ≡ 0 → 1 ≤ p .security → PlainCall st table line p
+no-call st table line p e h = absurd (omega arith)
 
-of-trade : (line : List ℕ) → column 1 line ≡ 84 → ofKind (column 1 line) line ≡ record { formed = tradeFormed line; ranged = tradeRanged line; line = Traded (tradeOf line) }
+pub of-trade : (line : List ℕ) → column 1 line ≡ 84 → ofKind (column 1 line) line ≡ record { formed = tradeFormed line; ranged = tradeRanged line; line = Traded (tradeOf line) }
 unfolding ofKind pick
 of-trade line e = ap (λ (k : ℕ). ofKind k line) e
 
 -- ---- the plan
 
-and-shut : (b : Bool) → (b && false) ≡ false
+pub and-shut : (b : Bool) → (b && false) ≡ false
 and-shut true = refl
 and-shut false = refl
 
-module _ (st : Settings) (table names line : List ℕ) (room : ℕ) (p : Plain) (h : PlainCall st table line room p) where
+module _ (st : Settings) (table names line : List ℕ) (p : Plain) (h : PlainCall st table line p) where
   abbrev s : Security
   s = row table (p .security - 1)
 
@@ -96,15 +96,15 @@ module _ (st : Settings) (table names line : List ℕ) (room : ℕ) (p : Plain) 
   unfolding planOf readPlan linePlan plainTrade pick
   plan-is = rw (h .line-is .shaped, a-kind, dated, formed, ranged, traded) unstopped
 
-pub plain-ready : (st : Settings) (table line : List ℕ) (room : ℕ) (p : Plain) → PlainCall st table line room p → Ready (row table (p .security - 1)) p
+pub plain-ready : (st : Settings) (table line : List ℕ) (p : Plain) → PlainCall st table line p → Ready (row table (p .security - 1)) p
 unfolding plainTrade plainSide
-plain-ready st table line room p h =
+plain-ready st table line p h =
     let q = sound line p (h .line-is) in
     record { low = q .low; high = q .high; unit-is = has-unit (row table (p .security - 1)) (ap not (h .entered)); price-is = q .price }
 
 -- ---- the call
 
-module _ (st : Settings) (table names line tape : List ℕ) (p : Plain) (h : PlainCall st table line (length tape) p) (k : ℕ) (table′ tape′ : List ℕ)
+module _ (st : Settings) (table names line tape : List ℕ) (p : Plain) (h : PlainCall st table line p) (k : ℕ) (table′ tape′ : List ℕ)
     (w : Written (tradeText st (row table (p .security - 1)) (nameOf names (p .security - 1)) (p .market) (plainSide (p .volume) (p .n) (p .d))) tape tape′ k) where
   abbrev plan : Plan
   plan = Print (printPlan st (row table (p .security - 1)) (plainTrade p))
@@ -118,7 +118,7 @@ module _ (st : Settings) (table names line tape : List ℕ) (p : Plain) (h : Pla
 
   asked-plan : asked st table names line (length tape) ≡ plan
   unfolding asked fittedOf printOf pick
-  asked-plan = rw (plan-is st table names line (length tape) p h, le-ltb (length tape) (length (printOf st names plan)) fits)
+  asked-plan = rw (plan-is st table names line p h, le-ltb (length tape) (length (printOf st names plan)) fits)
 
   after-plan : tableAfter table plan ≡ withRow table (p .security - 1) (afterTrade st (row table (p .security - 1)) (p .market) (plainSide (p .volume) (p .n) (p .d)))
   unfolding tableAfter printPlan plainTrade

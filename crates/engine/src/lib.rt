@@ -9,12 +9,19 @@ use planner::TradePlan;
 use rules::Mode;
 use rules::Refusal;
 use rules::Settings;
+use rules::Trade;
 ghost use mathlib.Core.Path.{_≡_};
 ghost use Prim.Native.Nat.{_≤_, _<_};
 ghost use lib.ListN.{length};
 ghost use Rattle.text.specs.Put.{Written};
+ghost use mathlib.Core.Bool.{true};
+ghost use Rattle.rules.specs.Names.{nameText};
 ghost use Rattle.rules.specs.Day.{opened};
-ghost use Rattle.engine.specs.PlainCall.{PlainCall};
+ghost use Rattle.rules.specs.Line.{tradeFormed, tradeRanged, tradeOf};
+ghost use Rattle.table.specs.Rows.{nameOf, withRow};
+ghost use Rattle.planner.specs.Plan.{SoundTrade};
+ghost use Rattle.engine.specs.declared.Outcome.the-variants.{Refused};
+ghost use Rattle.engine.specs.Calls.{PlainCall, TradeCall, answered};
 ghost use Rattle.engine.specs.Taken.{SoundPrint, SoundCancel, SoundCorrect, SoundPlan, printedName, printText, cancelled, corrected, textOf, fittedOf, asked, settingsAfter, tableAfter, namesAfter, outcomeOf, Taken};
 
 // Accepted, with the length of its print, 0 where nothing prints; or refused.
@@ -287,13 +294,10 @@ pub fn ask_line(
     fitted(st, &buffer[..n], line, p, room)
 }
 
-// A plain trade whose security is entered, where there is room for any print; the security is 0 where the line is none.
-fn plain_at(st: Settings, table: &[u64; 5632], line: &[u8], room: usize) -> Plain
-    ensures { λ r. ⌜ (1 ≤ r .security → PlainCall st (now (table .entry)) (now (line .entry)) room r) ⌝ }
+// A plain trade whose security is entered; the security is 0 where the line is none.
+fn plain_at(st: Settings, table: &[u64; 5632], line: &[u8]) -> Plain
+    ensures { λ r. ⌜ (1 ≤ r .security → PlainCall st (now (table .entry)) (now (line .entry)) r) ⌝ }
 {
-    if room < 200 {
-        return plainline::nothing();
-    }
     if st.date == 0 {
         return plainline::nothing();
     }
@@ -309,7 +313,98 @@ fn plain_at(st: Settings, table: &[u64; 5632], line: &[u8], room: usize) -> Plai
     p
 }
 
-// Every line but a plain trade: by its plan.
+// Any other T line after a D, where there is room for any print.
+fn is_trade(st: Settings, line: &[u8], room: usize) -> bool
+    ensures { λ r. ⌜ (r ≡ true → TradeCall st (now (line .entry)) room) ⌝ }
+{
+    if room < 200 {
+        return false;
+    }
+    if st.date == 0 {
+        return false;
+    }
+    if !planner::is_shaped(line) {
+        return false;
+    }
+    line[0] == b'T'
+}
+
+fn refused(st: Settings, x: Refusal) -> Answer
+    ensures { λ r. ⌜ r ≡ answered (Refused x) st ⌝ }
+{
+    Answer {
+        outcome: Outcome::Refused(x),
+        settings: st,
+    }
+}
+
+// An accepted trade: its print and its security.
+fn take_print(table: &mut [u64; 5632], names: &[u8; 9728], t: TradePlan, tape: &mut [u8]) -> usize
+    requires { ⌜ SoundPrint t × (200 ≤ length (now tape)) ⌝ }
+    ensures { λ r. ⌜ (now (table .exit) ≡ withRow (now (table .entry)) (t .place) (t .after)) × Written (printText (nameText (t .temporary) (nameOf (now (names .entry)) (t .place))) t) (now (tape .entry)) (now (tape .exit)) r ⌝ }
+{
+    let mut buffer = [0u8; 22];
+    let place = t.place;
+    let after = t.after;
+    let n = plaintrade::write_name(&mut buffer, names, place, t.temporary);
+    table::store(table, place, after);
+    write_print(tape, &buffer[..n], t)
+}
+
+// A trade in its form and within its values: refusals 6, 10 and 11, or its print.
+fn take_traded(
+    st: Settings,
+    table: &mut [u64; 5632],
+    names: &[u8; 9728],
+    line: &[u8],
+    t: Trade,
+    tape: &mut [u8],
+) -> Answer
+    requires { ⌜ TradeCall st (now line) (length (now tape)) × (t ≡ tradeOf (now line)) × (tradeFormed (now line) ≡ true) × (tradeRanged (now line) ≡ true) × SoundTrade t ⌝ }
+    ensures { λ r. ⌜ Taken st (now (table .entry)) (now (names .entry)) (now (line .entry)) (now (tape .entry)) (now (table .exit)) (now (names .entry)) (now (tape .exit)) r ⌝ }
+{
+    let place = (t.security - 1) as usize;
+    let s = table::load(table, place);
+    if !qualifying::is_entered(s) {
+        return refused(st, Refusal::NotEntered);
+    }
+    if !planner::is_lawful(s, t) {
+        return refused(st, Refusal::Conditions);
+    }
+    if !t.matched {
+        return refused(st, Refusal::Unmatched);
+    }
+    let p = planner::print_plan(st, s, t);
+    let k = take_print(table, names, p, tape);
+    Answer {
+        outcome: Outcome::Accepted(k),
+        settings: st,
+    }
+}
+
+// A T line: refusals 4 and 5 first.
+fn take_trade(
+    st: Settings,
+    table: &mut [u64; 5632],
+    names: &[u8; 9728],
+    line: &[u8],
+    tape: &mut [u8],
+) -> Answer
+    requires { ⌜ TradeCall st (now line) (length (now tape)) ⌝ }
+    ensures { λ r. ⌜ Taken st (now (table .entry)) (now (names .entry)) (now (line .entry)) (now (tape .entry)) (now (table .exit)) (now (names .entry)) (now (tape .exit)) r ⌝ }
+{
+    let read = dayline::read_trade(line);
+    if !read.formed {
+        return refused(st, Refusal::Form);
+    }
+    if !read.ranged {
+        return refused(st, Refusal::Value);
+    }
+    let t = read.trade;
+    take_traded(st, table, names, line, t, tape)
+}
+
+// Every other line: by its plan.
 fn take_other(
     st: Settings,
     table: &mut [u64; 5632],
@@ -332,7 +427,23 @@ fn take_other(
     }
 }
 
-// One call.
+// Every line but a plain trade.
+fn take_rest(
+    st: Settings,
+    table: &mut [u64; 5632],
+    names: &mut [u8; 9728],
+    line: &[u8],
+    tape: &mut [u8],
+) -> Answer
+    ensures { λ r. ⌜ Taken st (now (table .entry)) (now (names .entry)) (now (line .entry)) (now (tape .entry)) (now (table .exit)) (now (names .exit)) (now (tape .exit)) r ⌝ }
+{
+    if is_trade(st, line, tape.len()) {
+        return take_trade(st, table, names, line, tape);
+    }
+    take_other(st, table, names, line, tape)
+}
+
+// One call. Most lines are plain trades, and most tapes have room for any print.
 pub fn take_line(
     st: Settings,
     table: &mut [u64; 5632],
@@ -342,7 +453,10 @@ pub fn take_line(
 ) -> Answer
     ensures { λ r. ⌜ Taken st (now (table .entry)) (now (names .entry)) (now (line .entry)) (now (tape .entry)) (now (table .exit)) (now (names .exit)) (now (tape .exit)) r ⌝ }
 {
-    let p = plain_at(st, table, line, tape.len());
+    if tape.len() < 200 {
+        return take_rest(st, table, names, line, tape);
+    }
+    let p = plain_at(st, table, line);
     if 1 <= p.security {
         let k = plaintrade::take_plain(st, table, names, p, tape);
         return Answer {
@@ -350,5 +464,5 @@ pub fn take_line(
             settings: st,
         };
     }
-    take_other(st, table, names, line, tape)
+    take_rest(st, table, names, line, tape)
 }

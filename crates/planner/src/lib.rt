@@ -73,7 +73,7 @@ pub enum Plan {
 
 // ---- the plan
 
-fn is_shaped(line: &[u8]) -> bool
+pub fn is_shaped(line: &[u8]) -> bool
     ensures { λ r. ⌜ r ≡ isShaped (now (line .entry)) ⌝ }
 {
     if line.len() != 100 {
@@ -184,7 +184,7 @@ fn listing_plan(table: &[u64; 5632], names: &[u8; 9728], name: &[u8], l: Listing
     Plan::Enter(place, entered_as(l))
 }
 
-fn print_plan(st: Settings, s: Security, t: Trade) -> TradePlan
+pub fn print_plan(st: Settings, s: Security, t: Trade) -> TradePlan
     requires { ⌜ SoundTrade t ⌝ }
     ensures { λ r. ⌜ r ≡ printPlan st s t ⌝ }
 {
@@ -202,7 +202,7 @@ fn print_plan(st: Settings, s: Security, t: Trade) -> TradePlan
     }
 }
 
-fn is_lawful(s: Security, t: Trade) -> bool
+pub fn is_lawful(s: Security, t: Trade) -> bool
     ensures { λ r. ⌜ r ≡ (t .lawful && onNetwork (s .network) (t .side .letters)) ⌝ }
 {
     let x = t.side;

@@ -10,20 +10,14 @@ nothing-requires c κs = search needs
 returns : tie.Need-returns
 returns c = search no-call
 
+read-plain-requires : tie.Need-read-plain-requires
+read-plain-requires c κs = search needs
+
 nothing-requires-2 : tie.Need-nothing-requires-2
 nothing-requires-2 c κs = search needs
 
 returns-2 : tie.Need-returns-2
 returns-2 c = search no-call
-
-read-plain-requires : tie.Need-read-plain-requires
-read-plain-requires c κs = search needs
-
-nothing-requires-3 : tie.Need-nothing-requires-3
-nothing-requires-3 c κs = search needs
-
-returns-3 : tie.Need-returns-3
-returns-3 c = search no-call
 
 load-requires : tie.Need-load-requires
 load-requires c κs = place-there _ _ (c .before .before .before .read-plain .ensures) (omega arith)
@@ -31,14 +25,14 @@ load-requires c κs = place-there _ _ (c .before .before .before .read-plain .en
 is-entered-requires : tie.Need-is-entered-requires
 is-entered-requires c κs = search needs
 
-nothing-requires-4 : tie.Need-nothing-requires-4
-nothing-requires-4 c κs = search needs
+nothing-requires-3 : tie.Need-nothing-requires-3
+nothing-requires-3 c κs = search needs
+
+returns-3 : tie.Need-returns-3
+returns-3 c = search no-call
 
 returns-4 : tie.Need-returns-4
-returns-4 c = search no-call
-
-returns-5 : tie.Need-returns-5
-returns-5 c = search plain-call
+returns-4 c = search plain-call
 
 pub plain-at-spec : {M : Type 1} → statement M
 plain-at-spec =
@@ -46,13 +40,11 @@ plain-at-spec =
     (tie.spec
     nothing-requires
     returns
+    read-plain-requires
     nothing-requires-2
     returns-2
-    read-plain-requires
-    nothing-requires-3
-    returns-3
     load-requires
     is-entered-requires
-    nothing-requires-4
-    returns-4
-    returns-5)
+    nothing-requires-3
+    returns-3
+    returns-4)
