@@ -7,6 +7,7 @@ use mathlib.Core.Bool.{Bool, true, false, _&&_, _||_, not}
 use mathlib.Core.List.{List, [], _∷_, _++_, append-assoc, append-nil}
 use lib.Dec.{eqb, leb, ltb}
 use lib.ListN.{length, take, drop, length-append, length-take}
+use borrow.Author.Tests.{not-true}
 use Rattle.text.specs.Bytes.{bytes}
 use Rattle.text.specs.Pick.{pick, opt, all}
 use Rattle.text.specs.Decimal.{decimal, places}
@@ -31,7 +32,7 @@ use Rattle.nameable.proofs.Counts.{take-drop}
 use Rattle.longest.proofs.Tail.{fromAverage, sizeAverage}
 
 -- a digit or a figure dot
-isFigure : ℕ → Bool
+pub isFigure : ℕ → Bool
 isFigure c = isDigit c || eqb c 44
 
 figure-digit : (q : ℕ) → q < 10 → isFigure (48 + q) ≡ true
@@ -81,7 +82,7 @@ volume-figures n =
 
 -- ---- what stands behind the figures
 
-pastFigures : List ℕ → List ℕ
+pub pastFigures : List ℕ → List ℕ
 pastFigures [] = []
 pastFigures (c ∷ s) = pick (isFigure c) (pastFigures s) (c ∷ s)
 
@@ -103,7 +104,7 @@ front-ends (c ∷ t) s [] r e h k = absurd (false-true (sym k ∙ ap (heads isFi
 front-ends (c ∷ t) s (d ∷ u) r e h k = omega (front-ends t s u r (ap (drop 1) e) (and-right (isFigure c) (all isFigure t) h) k, arith)
 
 -- a mark
-isMark : List ℕ → Bool
+pub isMark : List ℕ → Bool
 isMark s = starts (bytes "s") s || (starts (bytes "$") s || starts (bytes "SHRS") s)
 
 -- no condition begins with a mark, with figures before it or not
@@ -138,16 +139,55 @@ nothing : (s : List ℕ) (w : VolumeRead) → VolumeFound s w → w .volume ≡ 
 unfolding saidText
 nothing s w f z = omega (ap length (f .text ∙ ap saidText z), length-take (w .used) s, f .within, f .used, arith)
 
--- THE VOLUME GOES BEYOND
-pub volume-beyond : (p : Price) (k b t r : Bool) (d : ℕ) (j g : Bool) (q : Price) (R : List ℕ) (w : VolumeRead) → volumeAt (priceText true p ++ (opt k (bytes ",c") ++ fromAverage b t r d j g q R)) ≡ Said w → length (priceText true p) + (length (opt k (bytes ",c")) + sizeAverage b t r d j g q) ≤ w .used
-volume-beyond p k b t r d j g q R w e =
+-- a volume that is read at a price: the price is in its figures, and its mark stands behind figures only
+record Overlaps (p : Price) (rest : List ℕ) (w : VolumeRead) : Type 0 where
+  far : length (priceText true p) ≤ w .used
+  mark-there : isMark (pastFigures rest) ≡ true
+
+overlaps : (p : Price) (rest : List ℕ) (w : VolumeRead) → volumeAt (priceText true p ++ rest) ≡ Said w → Overlaps p rest w
+overlaps p Z w e =
     let P = priceText true p in
-    let Z = opt k (bytes ",c") ++ fromAverage b t r d j g q R in
     let f = volume-found (P ++ Z) w e in
     let m = marked (w .volume) (nothing (P ++ Z) w f) in
     let rest = drop (w .used) (P ++ Z) in
     let l : length (m .figures) ≤ w .used = omega (ap length (f .text ∙ m .text), length-append (m .figures) (m .mark), length-take (w .used) (P ++ Z), arith) in
     let x : P ++ Z ≡ m .figures ++ (m .mark ++ rest) = sym (take-drop (w .used) (P ++ Z)) ∙ ap (λ y. y ++ rest) (f .text ∙ m .text) ∙ append-assoc (m .figures) (m .mark) rest in
     let y : pastFigures Z ≡ m .mark ++ rest = sym (past-all P Z (price-figures p)) ∙ ap pastFigures x ∙ past-all (m .figures) (m .mark ++ rest) (m .all-figures) ∙ past-stop (m .mark ++ rest) (m .ends rest) in
-    let z = no-mark k b t r d j g q R (ap isMark y ∙ m .marks rest) in
-    omega (front-ends P Z (m .figures) (m .mark ++ rest) x (price-figures p) (m .ends rest), l, z, arith)
+    record { far = omega (front-ends P Z (m .figures) (m .mark ++ rest) x (price-figures p) (m .ends rest), l, arith); mark-there = ap isMark y ∙ m .marks rest }
+
+-- THE VOLUME GOES BEYOND
+pub volume-beyond : (p : Price) (k b t r : Bool) (d : ℕ) (j g : Bool) (q : Price) (R : List ℕ) (w : VolumeRead) → volumeAt (priceText true p ++ (opt k (bytes ",c") ++ fromAverage b t r d j g q R)) ≡ Said w → length (priceText true p) + (length (opt k (bytes ",c")) + sizeAverage b t r d j g q) ≤ w .used
+volume-beyond p k b t r d j g q R w e =
+    let o = overlaps p (opt k (bytes ",c") ++ fromAverage b t r d j g q R) w e in
+    omega (o .far, no-mark k b t r d j g q R (o .mark-there), arith)
+
+-- ---- no volume where no mark stands behind the figures
+
+unfoldable pub unmarked : List ℕ → Bool
+unmarked s = not (isMark (pastFigures s))
+
+pub unmarked-pair : (s : List ℕ) → unmarked (bytes ">>" ++ s) ≡ true
+unfolding unmarked isMark pastFigures isFigure isDigit starts pick
+unmarked-pair s = refl
+
+pub unmarked-was : (s : List ℕ) → unmarked (bytes "WAS." ++ s) ≡ true
+unfolding unmarked isMark pastFigures isFigure isDigit starts pick
+unmarked-was s = refl
+
+pub unmarked-tail : (k b t r : Bool) (d : ℕ) (j g : Bool) (q : Price) (R : List ℕ) → (g ≡ false → unmarked R ≡ true) → unmarked (opt k (bytes ",c") ++ fromAverage b t r d j g q R) ≡ true
+unfolding opt sellerText previousText pastFigures isFigure isDigit isMark starts pick unmarked
+unmarked-tail true b t r d j g q R h = refl
+unmarked-tail false true t r d j g q R h = refl
+unmarked-tail false false true r d j g q R h = refl
+unmarked-tail false false false true d j g q R h = refl
+unmarked-tail false false false false d true g q R h = refl
+unmarked-tail false false false false d false true q R h = refl
+unmarked-tail false false false false d false false q R h = h refl
+
+pub no-volume : (p : Price) (rest : List ℕ) → unmarked rest ≡ true → volumeAt (priceText true p ++ rest) ≡ NoVolume
+unfolding unmarked
+no-volume p rest h = go (volumeAt (priceText true p ++ rest)) refl
+  where
+    go : (y : VolumeAnswer) → volumeAt (priceText true p ++ rest) ≡ y → y ≡ NoVolume
+    go NoVolume e = refl
+    go (Said w) e = absurd (false-true (sym (not-true (isMark (pastFigures rest)) h) ∙ (overlaps p rest w e) .mark-there))

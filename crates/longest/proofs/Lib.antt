@@ -6,3 +6,5 @@ pub mod Sound
 pub mod Figures
 pub mod SideBack
 pub mod TradeBack
+pub mod SideExact
+pub mod CancelBack

@@ -89,7 +89,7 @@ module _ (network : ℕ) (x y : Volume) where
   unfolding explained
   by-one h = rw (h, or-true, or-true, or-true, or-true)
 
-unit-explains : (network unit : ℕ) (x y : Volume) → isUnit unit ≡ true → explains network unit x ≡ true → explains network unit y ≡ true → explained network x y ≡ true
+pub unit-explains : (network unit : ℕ) (x y : Volume) → isUnit unit ≡ true → explains network unit x ≡ true → explains network unit y ≡ true → explained network x y ≡ true
 unfolding isUnit among
 unit-explains network unit x y u h k =
     let e = both-explain network unit x y h k in
@@ -106,11 +106,11 @@ unit-explains network unit x y u h k =
 
 -- ---- the conditions of a side, one after the other
 
-tail-parts : (x : Side) (R : List ℕ) → x .letters .c ≡ false → tailText x ++ R ≡ opt (x .letters .k) (bytes ",c") ++ fromAverage (x .letters .b) (x .letters .t) (x .letters .r) (x .days) (x .letters .j) (x .letters .g) (x .previous) R
+pub tail-parts : (x : Side) (R : List ℕ) → x .letters .c ≡ false → tailText x ++ R ≡ opt (x .letters .k) (bytes ",c") ++ fromAverage (x .letters .b) (x .letters .t) (x .letters .r) (x .days) (x .letters .j) (x .letters .g) (x .previous) R
 unfolding tailText afterPrice atEnd
 tail-parts x R c = rw c (simp append-assoc)
 
-tail-size : (x : Side) → x .letters .c ≡ false → length (tailText x) ≡ length (opt (x .letters .k) (bytes ",c")) + sizeAverage (x .letters .b) (x .letters .t) (x .letters .r) (x .days) (x .letters .j) (x .letters .g) (x .previous)
+pub tail-size : (x : Side) → x .letters .c ≡ false → length (tailText x) ≡ length (opt (x .letters .k) (bytes ",c")) + sizeAverage (x .letters .b) (x .letters .t) (x .letters .r) (x .days) (x .letters .j) (x .letters .g) (x .previous)
 unfolding tailText afterPrice atEnd
 tail-size x c =
     let K = opt (x .letters .k) (bytes ",c") in
@@ -155,11 +155,11 @@ two-networks n h k = omega (eqb-true n 65 h, eqb-true n 66 k, arith)
 days-in : (d : ℕ) → (leb 1 d && leb d 999) ≡ true → (1 ≤ d) × (d < 10 ^ 3)
 days-in d h = (leb-true 1 d (and-left (leb 1 d) _ h), omega (leb-true d 999 (and-right (leb 1 d) _ h), arith))
 
-off-first : (a b : Bool) → (a && b) ≡ false → b ≡ true → a ≡ false
+pub off-first : (a b : Bool) → (a && b) ≡ false → b ≡ true → a ≡ false
 off-first true b h e = absurd (false-true (sym h ∙ e))
 off-first false b h e = refl
 
-none-one : one false ≡ 0
+pub none-one : one false ≡ 0
 unfolding pick
 none-one = refl
 
@@ -191,7 +191,7 @@ module _ (network : ℕ) (x : Side) (h : Showable network x) where
   fit₃ : (leb (letterCount (x .letters)) 4 && (oneSold (x .letters) && oneDelivery (x .letters))) ≡ true
   fit₃ = and-right (not (x .letters .c)) _ fit₂
 
-  shown-few : letterCount (x .letters) ≤ 4
+  pub shown-few : letterCount (x .letters) ≤ 4
   shown-few = leb-true (letterCount (x .letters)) 4 (and-left (leb (letterCount (x .letters)) 4) _ fit₃)
 
   pub shown-sold : oneSold (x .letters) ≡ true
@@ -201,24 +201,24 @@ module _ (network : ℕ) (x : Side) (h : Showable network x) where
   unfolding oneDelivery
   delivery = and-right (oneSold (x .letters)) _ (and-right (leb (letterCount (x .letters)) 4) _ fit₃)
 
-  apart-mk : (x .letters .m && x .letters .k) ≡ false
+  pub apart-mk : (x .letters .m && x .letters .k) ≡ false
   apart-mk = not-true (x .letters .m && x .letters .k) (and-left (not (x .letters .m && x .letters .k)) _ delivery)
 
-  apart-mr : (x .letters .m && x .letters .r) ≡ false
+  pub apart-mr : (x .letters .m && x .letters .r) ≡ false
   apart-mr = not-true (x .letters .m && x .letters .r) (and-left (not (x .letters .m && x .letters .r)) _ (and-right (not (x .letters .m && x .letters .k)) _ delivery))
 
-  apart-kr : (x .letters .k && x .letters .r) ≡ false
+  pub apart-kr : (x .letters .k && x .letters .r) ≡ false
   apart-kr = not-true (x .letters .k && x .letters .r) (and-right (not (x .letters .m && x .letters .r)) _ (and-right (not (x .letters .m && x .letters .k)) _ delivery))
 
-  rule-network : x .letters .j ≡ true → eqb network 65 ≡ true
+  pub rule-network : x .letters .j ≡ true → eqb network 65 ≡ true
   unfolding onNetwork
   rule-network e = implied (x .letters .j) (eqb network 65) e (and-left (not (x .letters .j) || eqb network 65) _ (h .on))
 
-  previous-network : x .letters .g ≡ true → eqb network 66 ≡ true
+  pub previous-network : x .letters .g ≡ true → eqb network 66 ≡ true
   unfolding onNetwork
   previous-network e = implied (x .letters .g) (eqb network 66) e (and-right (not (x .letters .j) || eqb network 65) _ (h .on))
 
-  apart-jg : (x .letters .j && x .letters .g) ≡ false
+  pub apart-jg : (x .letters .j && x .letters .g) ≡ false
   apart-jg = go (x .letters .j) refl (x .letters .g) refl
     where
       go : (j : Bool) → x .letters .j ≡ j → (g : Bool) → x .letters .g ≡ g → (j && g) ≡ false
@@ -226,13 +226,13 @@ module _ (network : ℕ) (x : Side) (h : Showable network x) where
       go true e false f = refl
       go false e g f = refl
 
-  shown-days : x .letters .r ≡ true → (1 ≤ x .days) × (x .days < 10 ^ 3)
+  pub shown-days : x .letters .r ≡ true → (1 ≤ x .days) × (x .days < 10 ^ 3)
   unfolding between pick
   shown-days e =
       let d = ap (λ b. pick b (leb 1 (x .days) && leb (x .days) 999) (eqb (x .days) 0)) (sym e) ∙ h .days-fit in
       days-in (x .days) d
 
-  shown-previous : x .letters .g ≡ true → isPrice (x .previous .n) (x .previous .d) ≡ true
+  pub shown-previous : x .letters .g ≡ true → isPrice (x .previous .n) (x .previous .d) ≡ true
   unfolding pick
   shown-previous e = ap (λ b. pick b (isPrice (x .previous .n) (x .previous .d)) (eqb (x .previous .n) 0 && eqb (x .previous .d) 0)) (sym e) ∙ h .previous-fits
 
@@ -289,7 +289,7 @@ on-66 : (network : ℕ) → network ≡ 66 → (a b : Bool) (v : Volume) → fla
 unfolding flagOf pick
 on-66 network q a b v f e = ap (λ n. pick (eqb n 65) (a && explained 65 v v) (b && explained 66 v v)) q ∙ both (ap (λ n. pick (eqb n 65) a b) (sym q) ∙ f) (ap (λ n. explained n v v) (sym q) ∙ e)
 
-still : (network : ℕ) (a b : Bool) (v : Volume) → isNetwork network ≡ true → flagOf network a b ≡ true → explained network v v ≡ true → flagOf network (a && explained 65 v v) (b && explained 66 v v) ≡ true
+pub still : (network : ℕ) (a b : Bool) (v : Volume) → isNetwork network ≡ true → flagOf network a b ≡ true → explained network v v ≡ true → flagOf network (a && explained 65 v v) (b && explained 66 v v) ≡ true
 unfolding isNetwork among flagOf pick
 still network a b v n f e =
     ⊎-elim (λ q. on-65 network (eqb-true network 65 q) a b v f e)
@@ -301,9 +301,25 @@ unfolding pick
 one-picked true a b h = rw h
 one-picked false a b h = rw h (or-true a)
 
-one-flag : (network : ℕ) (a b : Bool) → flagOf network a b ≡ true → (a || b) ≡ true
+pub one-flag : (network : ℕ) (a b : Bool) → flagOf network a b ≡ true → (a || b) ≡ true
 unfolding flagOf
 one-flag network a b h = one-picked (eqb network 65) a b h
+
+-- the same beside another volume
+with-65 : (first : Beside) (network : ℕ) → network ≡ 65 → (a b : Bool) (v : Volume) → flagOf network a b ≡ true → explained network (beside first v) v ≡ true → flagOf network (a && explained 65 (beside first v) v) (b && explained 66 (beside first v) v) ≡ true
+unfolding flagOf pick
+with-65 first network q a b v f e = ap (λ n. pick (eqb n 65) (a && explained 65 (beside first v) v) (b && explained 66 (beside first v) v)) q ∙ both (ap (λ n. pick (eqb n 65) a b) (sym q) ∙ f) (ap (λ n. explained n (beside first v) v) (sym q) ∙ e)
+
+with-66 : (first : Beside) (network : ℕ) → network ≡ 66 → (a b : Bool) (v : Volume) → flagOf network a b ≡ true → explained network (beside first v) v ≡ true → flagOf network (a && explained 65 (beside first v) v) (b && explained 66 (beside first v) v) ≡ true
+unfolding flagOf pick
+with-66 first network q a b v f e = ap (λ n. pick (eqb n 65) (a && explained 65 (beside first v) v) (b && explained 66 (beside first v) v)) q ∙ both (ap (λ n. pick (eqb n 65) a b) (sym q) ∙ f) (ap (λ n. explained n (beside first v) v) (sym q) ∙ e)
+
+pub still-with : (first : Beside) (network : ℕ) (a b : Bool) (v : Volume) → isNetwork network ≡ true → flagOf network a b ≡ true → explained network (beside first v) v ≡ true → flagOf network (a && explained 65 (beside first v) v) (b && explained 66 (beside first v) v) ≡ true
+unfolding isNetwork among
+still-with first network a b v n f e =
+    ⊎-elim (λ q. with-65 first network (eqb-true network 65 q) a b v f e)
+    (λ q. ⊎-elim (λ r. with-66 first network (eqb-true network 66 r) a b v f e) (λ r. absurd (false-true r)) (either (eqb network 66) false q))
+    (either (eqb network 65) (eqb network 66 || false) n)
 
 -- ---- a side is read
 
@@ -312,7 +328,7 @@ pub record Reaches (answer : SideAnswer) (n : ℕ) : Type 0 where
   pub is : answer ≡ Sided got
   pub far : n ≤ got .taken .used
 
-some-not-none : (c : ℕ) (s : List ℕ) → c ∷ s ≡ [] → ⊥
+pub some-not-none : (c : ℕ) (s : List ℕ) → c ∷ s ≡ [] → ⊥
 some-not-none c s e = omega (ap length e, arith)
 
 by-none : {y : SideAnswer} {n : ℕ} → Reaches y n → Reaches (orElse NoSide y) n

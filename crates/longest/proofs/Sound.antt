@@ -61,6 +61,8 @@ use Rattle.rules.specs.Shown.{conditionsOf}
 use Rattle.rules.specs.NormalPrint.{ReadFact, readTrade}
 use Rattle.compose.specs.Shown.{Enterable}
 use Rattle.compose.specs.Printable.{partIn, Printable, by-trade}
+use Rattle.rules.specs.Correction.{endPair, cancelText}
+use Rattle.scan.proofs.Shown.{starts-take}
 use Rattle.heading.specs.Name.{nameOn}
 use Rattle.heading.specs.Head.{headAt}
 use Rattle.heading.specs.declared.NameRead.{NameRead}
@@ -72,7 +74,7 @@ use Rattle.reader.specs.declared.PrintRead.{PrintRead}
 use Rattle.reader.specs.declared.ReadAnswer.{ReadAnswer}
 use Rattle.reader.specs.declared.ReadAnswer.the-variants.{Announcement, Trade, Cancel, Error, Correction, Refused}
 use Rattle.rules.specs.declared.Refusal.the-variants.{NoPrint}
-use Rattle.reader.specs.Read.{tradeSide, tradeHead, tradeAt}
+use Rattle.reader.specs.Read.{tradeSide, tradeHead, tradeAt, endAt}
 use Rattle.normal.proofs.Normal.{printable-as}
 use Rattle.longest.proofs.Side.{Unit, Headed, SideTold, side-told, two-fronts}
 use Rattle.longest.proofs.Shows.{Explains, explains-side}
@@ -142,3 +144,58 @@ module _ (s : List ℕ) (h : NameRead) (k : HeadTold true s h) (x : SideRead) (e
       ∙ sym (two-fronts s (h .used) (x .taken .used)))
       (b .shown)
       refl
+
+-- ---- cancels and errors
+
+end-cases : (s : List ℕ) (n m : ℕ) (g t : Bool) → starts (bytes ">>") (drop n s) ≡ t → pick g n (pick t (n + 2) 0) ≡ m → 1 ≤ m → take m s ≡ take n s ++ opt (not g) (bytes ">>")
+unfolding pick opt
+end-cases s n m true t k e o = ap (λ i. take i s) (sym e) ∙ sym (append-nil (take n s))
+end-cases s n m false true k e o = ap (λ i. take i s) (sym e) ∙ two-fronts s n 2 ∙ ap (λ z. take n s ++ z) (starts-take (bytes ">>") (drop n s) k)
+end-cases s n m false false k e o = absurd (omega (e, o, arith))
+
+-- the end pair, or the closing G pair that serves
+end-told : (s : List ℕ) (n m : ℕ) (y : Side) → endAt s n y ≡ m → 1 ≤ m → take m s ≡ take n s ++ endPair y
+unfolding endAt endPair
+end-told s n m y e o = end-cases s n m (y .letters .g) (starts (bytes ">>") (drop n s)) refl e o
+
+module _ (opening s : List ℕ) (six : length opening ≡ 6) (starts-there : starts opening s ≡ true) (h : NameRead) (k : HeadTold false (drop 6 s) h) (x : SideRead) (e : sideAt Alone (h .letters) (h .a) (h .b) (drop (6 + h .used) s) ≡ Sided x) where
+  part-is : drop (6 + h .used) s ≡ drop (h .used) (drop 6 s)
+  part-is = sym (drop-drop (h .used) 6 s)
+
+  front-of : take (6 + h .used + x .taken .used) s ≡ opening ++ ((take (h .length) (drop 6 s) ++ afterName (h .letters)) ++ take (x .taken .used) (drop (6 + h .used) s))
+  front-of =
+      two-fronts s (6 + h .used) (x .taken .used)
+      ∙ ap (λ z. z ++ take (x .taken .used) (drop (6 + h .used) s)) (two-fronts s 6 (h .used) ∙ ap (λ z. z ++ take (h .used) (drop 6 s)) (ap (λ n. take n s) (sym six) ∙ starts-take opening s starts-there) ∙ ap (λ z. opening ++ z) (k .text))
+      ∙ append-assoc opening (take (h .length) (drop 6 s) ++ afterName (h .letters)) (take (x .taken .used) (drop (6 + h .used) s))
+
+  -- the security, the side and the text of what is read
+  record CancelTold (m : ℕ) : Type 0 where
+    network : ℕ
+    unit : ℕ
+    name : List ℕ
+    enters : Enterable network unit name
+    shows : Showable network (x .taken .side)
+    named : nameText false name ≡ take (h .length) (drop 6 s)
+    text : cancelText opening (nameText false name) network unit true true (x .taken .side) ≡ take m s
+
+  cancel-told : (m : ℕ) → endAt s (6 + h .used + x .taken .used) (x .taken .side) ≡ m → 1 ≤ m → CancelTold m
+  unfolding cancelText
+  cancel-told m f o =
+      let d = headed (h .letters) (k .sold) (k .only) in
+      let t = side-told Alone (h .letters) (h .a) (h .b) (drop (6 + h .used) s) d x e in
+      let w = explains-side Alone (h .letters) (h .a) (h .b) (drop (6 + h .used) s) x d t in
+      let b = name-built false (w .network) (take (h .length) (drop 6 s)) (w .is-network) (on-network false (drop 6 s) h (w .network) k (w .is-network) (w .allowed)) in
+      let u = w .unit-there in
+      record {
+        network = w .network;
+        unit = u .unit;
+        name = b .name;
+        enters = record { on = w .is-network; trades-in = u .lawful; plain = b .plain; sized = b .sized; printable = b .printable };
+        shows = w .shows;
+        named = b .shown;
+        text =
+            ap (λ z. (opening ++ sideText z (w .network) (u .unit) true true (x .taken .side)) ++ endPair (x .taken .side)) (b .shown)
+            ∙ ap (λ z. (opening ++ z) ++ endPair (x .taken .side)) (side-text Alone (h .letters) (h .a) (h .b) (drop (6 + h .used) s) x d t (take (h .length) (drop 6 s)) (w .network) (u .unit) (u .second))
+            ∙ ap (λ z. z ++ endPair (x .taken .side)) (sym front-of)
+            ∙ sym (end-told s (6 + h .used + x .taken .used) m (x .taken .side) f o);
+      }

@@ -41,7 +41,7 @@ use Rattle.reader.specs.Read.{tradeSide, tradeHead, tradeAt}
 use Rattle.longest.proofs.SideBack.{some-price, flagOf, shown-n, shown-sold, Reaches, side-reaches}
 
 -- the network of the name is one that the head allows
-flag-there : (temporary : Bool) (network : ℕ) (text : List ℕ) → isNetwork network ≡ true → nameOn temporary network text ≡ true → flagOf network (nameOn temporary 65 text) (nameOn temporary 66 text) ≡ true
+pub flag-there : (temporary : Bool) (network : ℕ) (text : List ℕ) → isNetwork network ≡ true → nameOn temporary network text ≡ true → flagOf network (nameOn temporary 65 text) (nameOn temporary 66 text) ≡ true
 unfolding isNetwork among flagOf pick
 flag-there temporary network text n h =
     ⊎-elim (λ q. on-a network (eqb-true network 65 q))
@@ -54,7 +54,7 @@ flag-there temporary network text n h =
     on-b : (k : ℕ) → network ≡ 66 → pick (eqb network 65) (nameOn temporary 65 text) (nameOn temporary 66 text) ≡ true
     on-b k e = ap (λ m. pick (eqb m 65) (nameOn temporary 65 text) (nameOn temporary 66 text)) e ∙ ap (λ m. nameOn temporary m text) (sym e) ∙ h
 
-volume-in : (n : ℕ) → between 1 999999999 n ≡ true → (1 ≤ n) × (n < 1000000000)
+pub volume-in : (n : ℕ) → between 1 999999999 n ≡ true → (1 ≤ n) × (n < 1000000000)
 unfolding between
 volume-in n h = (leb-true 1 n (and-left (leb 1 n) _ h), omega (leb-true n 999999999 (and-right (leb 1 n) _ h), arith))
 
