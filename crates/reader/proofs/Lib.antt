@@ -1,0 +1,4 @@
+pub mod Rooms
+pub mod Prints
+pub mod Tells
+pub mod Bounds

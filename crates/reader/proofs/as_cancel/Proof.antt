@@ -1,0 +1,19 @@
+use Rattle.reader.proofs.Prints.{cancels}
+use borrow.Author.Needs.{needs}
+use Rattle.reader.proofs.as_cancel.Statement.{statement}
+use Rattle.reader.proofs.as_cancel.Tie as tie
+
+enum-known-x : tie.Need-enum-known-x
+enum-known-x c = search needs
+
+enum-told : tie.Need-enum-told
+enum-told c = search needs
+
+returns : tie.Need-returns
+returns c = search cancels
+
+returns-2 : tie.Need-returns-2
+returns-2 c = search cancels
+
+pub as-cancel-spec : {M : Type 1} → statement M
+as-cancel-spec = tie.close (tie.spec enum-known-x enum-told returns returns-2)
