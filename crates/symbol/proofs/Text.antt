@@ -3,7 +3,7 @@ use Prim.Native.Nat.{ℕ, zero, suc, _+_, _-_, _≤_, _<_}
 use native.Mathlib.Nat.{not-suc-le-zero}
 use native.Mathlib.Omega.{arith}
 use mathlib.Core.Path.{_≡_, refl, sym, ap, _∙_}
-use mathlib.Core.Bool.{Bool, true, false, not}
+use mathlib.Core.Bool.{Bool, true, false, _&&_, not}
 use mathlib.Core.List.{List, [], _∷_, _++_}
 use lib.ListN.{length, getD, take, drop, length-append, length-take, length-drop}
 use lib.Seq.{length-take-le, take-at}
@@ -158,12 +158,32 @@ unlike-begun t u [] b l m h k d = absurd (not-suc-le-zero l)
 unlike-begun t u (x ∷ a) [] l m h k d = absurd (not-suc-le-zero m)
 unlike-begun t u (x ∷ a) (y ∷ b) l m h k d = rw (begins t x a h, begins u y b k, ne-eqb x y d)
 
-pub apart : (a b : List ℕ) → length a ≡ 19 → length b ≡ 19 → (getD a 0 0 ≡ 32 → ⊥) → (getD b 0 0 ≡ 32 → ⊥) → not (eqb (getD a 0 0) (getD b 0 0)) ≡ true → sameName a b ≡ false
+begins-two : (t : Bool) (c d : ℕ) (s : List ℕ) → (c ≡ 32 → ⊥) → (d ≡ 32 → ⊥) → nameText t (c ∷ d ∷ s) ≡ c ∷ d ∷ (word (take 4 s) ++ partText (word (suffixField (c ∷ d ∷ s))) ++ opt t (partText (word (temporaryField (c ∷ d ∷ s)))) ++ partText (word (appendageField (c ∷ d ∷ s))))
+unfolding nameText
+begins-two t c d s h k = rw (word-byte c (d ∷ take 4 s) h, word-byte d (take 4 s) k)
+
+and-shut : (x : Bool) → (x && false) ≡ false
+and-shut true = refl
+and-shut false = refl
+
+unlike-second : (t u : Bool) (a b : List ℕ) → 1 < length a → 1 < length b → (getD a 0 0 ≡ 32 → ⊥) → (getD b 0 0 ≡ 32 → ⊥) → (getD a 1 0 ≡ 32 → ⊥) → (getD b 1 0 ≡ 32 → ⊥) → (getD a 1 0 ≡ getD b 1 0 → ⊥) → same (nameText t a) (nameText u b) ≡ false
+unfolding same
+unlike-second t u [] b l m h k i j d = absurd (not-suc-le-zero l)
+unlike-second t u (x ∷ []) b l m h k i j d = absurd (omega arith)
+unlike-second t u (x ∷ y ∷ a) [] l m h k i j d = absurd (not-suc-le-zero m)
+unlike-second t u (x ∷ y ∷ a) (z ∷ []) l m h k i j d = absurd (omega arith)
+unlike-second t u (x ∷ y ∷ a) (z ∷ w ∷ b) l m h k i j d = rw (begins-two t x y a h i, begins-two u z w b k j, ne-eqb y w d) (and-shut (eqb x z))
+
+apart-all : (a b : List ℕ) → ((t u : Bool) → same (nameText t a) (nameText u b) ≡ false) → sameName a b ≡ false
 unfolding sameName
-apart a b l m h k d =
-    let e = eqb-false (getD a 0 0) (getD b 0 0) (not-true (eqb (getD a 0 0) (getD b 0 0)) d) in
-    let f : (t u : Bool) → same (nameText t a) (nameText u b) ≡ false = λ t u. unlike-begun t u a b (omega arith) (omega arith) h k e in
-    rw (f true true, f true false, f false true, f false false)
+apart-all a b f = rw (f true true, f true false, f false true, f false false)
+
+module _ (a b : List ℕ) (l : length a ≡ 19) (m : length b ≡ 19) (h : getD a 0 0 ≡ 32 → ⊥) (k : getD b 0 0 ≡ 32 → ⊥) where
+  pub apart : (getD a 0 0 ≡ getD b 0 0 → ⊥) → true ≡ true → sameName a b ≡ false
+  apart d z = apart-all a b (λ t u. unlike-begun t u a b (omega arith) (omega arith) h k d)
+
+  pub apart-second : (getD a 1 0 ≡ 32 → ⊥) → (getD b 1 0 ≡ 32 → ⊥) → not (eqb (getD a 1 0) (getD b 1 0)) ≡ true → sameName a b ≡ false
+  apart-second i j d = apart-all a b (λ t u. unlike-second t u a b (omega arith) (omega arith) h k i j (eqb-false (getD a 1 0) (getD b 1 0) (not-true (eqb (getD a 1 0) (getD b 1 0)) d)))
 
 pub not-apart : (t : Bool) → false ≡ true → t ≡ false
 not-apart t h = cc

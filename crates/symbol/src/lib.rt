@@ -130,7 +130,7 @@ fn same_shown(a: &[u8], shown: bool, b: &[u8], other: bool) -> bool
     text::same_text(&first[..m], &second[..n])
 }
 
-// The names begin with different bytes, so that no text of the one is a text of the other.
+// The names differ in their first or second byte, neither a blank, so that no text of the one is a text of the other.
 fn begins_apart(a: &[u8], b: &[u8]) -> bool
     requires { ⌜ (length (now a) ≡ 19) × (length (now b) ≡ 19) ⌝ }
     ensures { λ r. ⌜ (r ≡ true → sameName (now (a .entry)) (now (b .entry)) ≡ false) ⌝ }
@@ -141,10 +141,19 @@ fn begins_apart(a: &[u8], b: &[u8]) -> bool
     if b[0] == 32 {
         return false;
     }
-    a[0] != b[0]
+    if a[0] != b[0] {
+        return true;
+    }
+    if a[1] == 32 {
+        return false;
+    }
+    if b[1] == 32 {
+        return false;
+    }
+    a[1] != b[1]
 }
 
-// A name, with or without temporary suffix, equals the other's (refusal 9). Most differ in their first byte.
+// A name, with or without temporary suffix, equals the other's (refusal 9). Most differ in their first two bytes.
 pub fn same_name(a: &[u8], b: &[u8]) -> bool
     requires { ⌜ (length (now a) ≡ 19) × (length (now b) ≡ 19) ⌝ }
     ensures { λ r. ⌜ r ≡ sameName (now (a .entry)) (now (b .entry)) ⌝ }
