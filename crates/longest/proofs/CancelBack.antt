@@ -71,7 +71,7 @@ plus-none : (n : ℕ) → n ≡ n + 0
 plus-none n = omega arith
 
 -- the end pair where the tail ended
-end-by-g : (s : List ℕ) (n : ℕ) (y : Side) → y .letters .g ≡ true → endAt s n y ≡ n
+pub end-by-g : (s : List ℕ) (n : ℕ) (y : Side) → y .letters .g ≡ true → endAt s n y ≡ n
 unfolding endAt pick
 end-by-g s n y e = rw e
 
@@ -87,7 +87,7 @@ end-reaches s n y x R e d = go (x .letters .g) refl
     go true f = rw f (end-by-g s n y (e ∙ f) ∙ plus-none n)
     go false f = rw f (end-by-pair s n y R (e ∙ f) (d ∙ ap (λ b. opt (not b) (bytes ">>") ++ R) f))
 
-pair-short : (x : Side) → length (endPair x) ≤ 2
+pub pair-short : (x : Side) → length (endPair x) ≤ 2
 unfolding endPair opt
 pair-short x = go (x .letters .g)
   where

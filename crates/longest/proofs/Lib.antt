@@ -8,3 +8,4 @@ pub mod SideBack
 pub mod TradeBack
 pub mod SideExact
 pub mod CancelBack
+pub mod CorrectionBack
