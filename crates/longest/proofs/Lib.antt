@@ -9,3 +9,4 @@ pub mod TradeBack
 pub mod SideExact
 pub mod CancelBack
 pub mod CorrectionBack
+pub mod CorrectionSound

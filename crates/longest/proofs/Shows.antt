@@ -94,7 +94,7 @@ module _ (first : Beside) (letters : Letters) (a b : Bool) (part : List ℕ) (x 
       let c : leb (letterCount (x .taken .side .letters)) 4 ≡ true = sym (is-le (letterCount (x .taken .side .letters)) 4 (omega (all-counted (x .taken .side .letters), l .counted, l .four, arith))) in
       rw (c, t .no-n, t .no-c, t .o-kept, t .s-kept, t .l-kept, h .sold, l .m-k, l .m-r, l .k-r)
 
-  shows-on : (network : ℕ) → onNetwork network (x .taken .side .letters) ≡ true → Unit network (beside first (x .volume)) (x .volume) → Showable network (x .taken .side)
+  pub shows-on : (network : ℕ) → onNetwork network (x .taken .side .letters) ≡ true → Unit network (beside first (x .volume)) (x .volume) → Showable network (x .taken .side)
   unfolding daysHere numberHere decimalsHere
   shows-on network o u = record {
     letters-fit = letters-show;
@@ -105,11 +105,11 @@ module _ (first : Beside) (letters : Letters) (a b : Bool) (part : List ℕ) (x 
     previous-fits = previous-shows (x .taken .side .letters .g) (x .taken .side .previous) (t .lawful .previous) (t .number-none) (t .decimals-none);
   }
 
-  on-network-a : x .taken .side .letters .g ≡ false → onNetwork 65 (x .taken .side .letters) ≡ true
+  pub on-network-a : x .taken .side .letters .g ≡ false → onNetwork 65 (x .taken .side .letters) ≡ true
   unfolding onNetwork
   on-network-a g = rw (g) (both-or (x .taken .side .letters .j))
 
-  on-network-b : x .taken .side .letters .j ≡ false → onNetwork 66 (x .taken .side .letters) ≡ true
+  pub on-network-b : x .taken .side .letters .j ≡ false → onNetwork 66 (x .taken .side .letters) ≡ true
   unfolding onNetwork
   on-network-b j = rw (j) (or-last (x .taken .side .letters .g))
 

@@ -154,7 +154,7 @@ end-cases s n m false true k e o = ap (λ i. take i s) (sym e) ∙ two-fronts s 
 end-cases s n m false false k e o = absurd (omega (e, o, arith))
 
 -- the end pair, or the closing G pair that serves
-end-told : (s : List ℕ) (n m : ℕ) (y : Side) → endAt s n y ≡ m → 1 ≤ m → take m s ≡ take n s ++ endPair y
+pub end-told : (s : List ℕ) (n m : ℕ) (y : Side) → endAt s n y ≡ m → 1 ≤ m → take m s ≡ take n s ++ endPair y
 unfolding endAt endPair
 end-told s n m y e o = end-cases s n m (y .letters .g) (starts (bytes ">>") (drop n s)) refl e o
 
