@@ -56,7 +56,6 @@ use Rattle.longest.proofs.Figures.{unmarked-pair}
 use Rattle.longest.proofs.TailExact.{lettersBefore, ended-pair, TailEnd, ended, more}
 use Rattle.longest.proofs.SideExact.{Closes, SideEnds, side-ends}
 use Rattle.longest.proofs.TradeBack.{flag-there, volume-in}
-
 use Rattle.text.specs.Pick.{all}
 use Rattle.rules.specs.Correction.{repeatsName, correctionText}
 use Rattle.rules.specs.Line.{alike}

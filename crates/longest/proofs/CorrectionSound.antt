@@ -78,7 +78,6 @@ use Rattle.reader.specs.Read.{tradeSide, tradeHead, tradeAt, endAt}
 use Rattle.normal.proofs.Normal.{printable-as}
 use Rattle.longest.proofs.Side.{Unit, Headed, SideTold, side-told, two-fronts}
 use Rattle.longest.proofs.Shows.{Explains, explains-side}
-
 use Rattle.rules.specs.Correction.{repeatsName, correctionText}
 use Rattle.rules.specs.Line.{alike}
 use Rattle.heading.specs.Head.{againAt}
@@ -108,7 +107,6 @@ module _ (s : List ℕ) (opens : starts (bytes "<<CORR.") s ≡ true) (h : NameR
     (g : AgainRead) (f : againAt (take (h .length) (drop 7 s)) (drop (7 + h .used + x .taken .used + 4) s) ≡ Again g)
     (y : SideRead) (d : sideAt (With (x .volume)) (g .letters) (x .taken .a) (x .taken .b) (drop (7 + h .used + x .taken .used + 4 + g .used) s) ≡ Sided y)
     (duly : alike (repeatsName (y .taken .side .letters)) (leb 1 (g .used)) ≡ true) where
-
   abbrev name : List ℕ
   name = take (h .length) (drop 7 s)
 

@@ -10,3 +10,4 @@ pub mod SideExact
 pub mod CancelBack
 pub mod CorrectionBack
 pub mod CorrectionSound
+pub mod Longest

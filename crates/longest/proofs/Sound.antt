@@ -129,7 +129,7 @@ on-network temporary s h network t n e =
 -- ---- trades
 
 module _ (s : List ℕ) (h : NameRead) (k : HeadTold true s h) (x : SideRead) (e : sideAt Alone (h .letters) (h .a) (h .b) (drop (h .used) s) ≡ Sided x) where
-  trade-printable : Printable (take (h .used + x .taken .used) s) (take (h .length) s) (readTrade (units (x .taken .side .price)) (conditionsOf (x .taken .side)) (some (x .taken .side .volume)))
+  pub trade-printable : Printable (take (h .used + x .taken .used) s) (take (h .length) s) (readTrade (units (x .taken .side .price)) (conditionsOf (x .taken .side)) (some (x .taken .side .volume)))
   trade-printable =
       let d = headed (h .letters) (k .sold) (k .only) in
       let t = side-told Alone (h .letters) (h .a) (h .b) (drop (h .used) s) d x e in
@@ -169,16 +169,16 @@ module _ (opening s : List ℕ) (six : length opening ≡ 6) (starts-there : sta
       ∙ append-assoc opening (take (h .length) (drop 6 s) ++ afterName (h .letters)) (take (x .taken .used) (drop (6 + h .used) s))
 
   -- the security, the side and the text of what is read
-  record CancelTold (m : ℕ) : Type 0 where
-    network : ℕ
-    unit : ℕ
-    name : List ℕ
-    enters : Enterable network unit name
-    shows : Showable network (x .taken .side)
-    named : nameText false name ≡ take (h .length) (drop 6 s)
-    text : cancelText opening (nameText false name) network unit true true (x .taken .side) ≡ take m s
+  pub record CancelTold (m : ℕ) : Type 0 where
+    pub network : ℕ
+    pub unit : ℕ
+    pub name : List ℕ
+    pub enters : Enterable network unit name
+    pub shows : Showable network (x .taken .side)
+    pub named : nameText false name ≡ take (h .length) (drop 6 s)
+    pub text : cancelText opening (nameText false name) network unit true true (x .taken .side) ≡ take m s
 
-  cancel-told : (m : ℕ) → endAt s (6 + h .used + x .taken .used) (x .taken .side) ≡ m → 1 ≤ m → CancelTold m
+  pub cancel-told : (m : ℕ) → endAt s (6 + h .used + x .taken .used) (x .taken .side) ≡ m → 1 ≤ m → CancelTold m
   unfolding cancelText
   cancel-told m f o =
       let d = headed (h .letters) (k .sold) (k .only) in

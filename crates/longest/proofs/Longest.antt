@@ -1,0 +1,445 @@
+-- THE READER'S THEOREM: the answer at a place is the longest normal print there. Assumes nothing.
+use Prim.Native.Nat.{ℕ, zero, suc, _+_, _-_, _*_, _^_, _≤_, _<_}
+use native.Mathlib.Nat.{zero-add}
+use native.Mathlib.Omega.{arith}
+use mathlib.Core.Path.{_≡_, refl, sym, ap, _∙_, subst}
+use mathlib.Core.Logic.{_⊎_, inl, inr, ⊎-elim}
+use mathlib.Core.Bool.{Bool, true, false, _&&_, _||_, not}
+use mathlib.Core.List.{List, [], _∷_, _++_, append-assoc, append-nil}
+use lib.Dec.{eqb, leb, ltb}
+use borrow.Author.Tests.{eqb-true, eqb-false, leb-true}
+use mathlib.Core.Option.{Option, none, some}
+use lib.ListN.{length, take, drop, length-append, length-take, length-drop}
+use lib.Seq.{drop-drop}
+use Rattle.text.specs.Bytes.{bytes}
+use Rattle.text.specs.Pick.{pick, opt, among}
+use Rattle.text.proofs.Texts.{and-left, and-right}
+use Rattle.text.proofs.Tests.{is-lt, is-le}
+use Rattle.rules.specs.Columns.{between}
+use Rattle.rules.specs.Price.{priceText, units}
+use Rattle.rules.specs.Volume.{volumeText}
+use Rattle.rules.specs.Conditions.{onNetwork}
+use Rattle.rules.specs.Side.{tailText}
+use Rattle.rules.specs.Line.{isPrice, isUnit, isNetwork}
+use Rattle.rules.specs.declared.Letters.{Letters}
+use Rattle.rules.specs.declared.Price.{Price}
+use Rattle.rules.specs.declared.Side.{Side}
+use Rattle.prices.specs.Sound.{Sound}
+use Rattle.named.specs.Cut.{oneSold}
+use Rattle.named.proofs.Root.{false-true, both, either}
+use Rattle.compose.specs.Shown.{letterCount, oneDelivery, showable, Showable}
+use Rattle.scan.specs.declared.PriceRead.{PriceRead}
+use Rattle.scan.specs.declared.PriceAnswer.{PriceAnswer}
+use Rattle.scan.specs.declared.PriceAnswer.the-variants.{Priced, NoPrice}
+use Rattle.scan.specs.declared.Volume.{Volume}
+use Rattle.scan.specs.declared.Volume.the-variants.{Unsaid, Hundreds, Tens, Shares}
+use Rattle.scan.specs.declared.VolumeRead.{VolumeRead}
+use Rattle.scan.specs.declared.VolumeAnswer.{VolumeAnswer}
+use Rattle.scan.specs.declared.VolumeAnswer.the-variants.{Said, NoVolume}
+use Rattle.scan.specs.Price.{priceAt}
+use Rattle.scan.specs.Volume.{volumeAt, sharesIn, figuresOf, saidText, explains, explainsBoth, explained}
+use Rattle.scan.proofs.Text.{PriceFound, price-found}
+use Rattle.scan.proofs.Shown.{VolumeFound, volume-found, explained-text, explained-some, shares-small}
+use Rattle.heading.specs.Head.{lettersAfter}
+use Rattle.tails.specs.declared.Taken.{Taken}
+use Rattle.tails.specs.Tail.{plusCash, plusAverage, plusStopped, plusSeller, plusRule, plusPrevious, sideWith as tails·sideWith, cashAt, averageAt, stoppedAt, sellerAt, ruleAt, previousAt, afterPriceAt, atEndAt, tailAt}
+use Rattle.tails.proofs.Standing.{cash-keeps, average-keeps, stopped-keeps, seller-keeps, rule-keeps, Bare, tail-text, tail-from, tail-within}
+use Rattle.tails.proofs.Lawful.{one as tails·one, letterCount as tails·letterCount, Lawful, bare-lawful, tail-lawful}
+use Rattle.tails.proofs.Kept.{previous-keeps, Explained, tail-explained, tail-volume, tail-price, tail-o, tail-s, tail-l, tail-n, tail-m, tail-c}
+use Rattle.sideread.specs.declared.Beside.{Beside}
+use Rattle.sideread.specs.declared.Beside.the-variants.{Alone, With}
+use Rattle.sideread.specs.declared.SideRead.{SideRead}
+use Rattle.sideread.specs.declared.SideAnswer.{SideAnswer}
+use Rattle.sideread.specs.declared.SideAnswer.the-variants.{Sided, NoSide}
+use Rattle.sideread.specs.Side.{headCount, beside, sidedBy, sideWith, saidSide, orElse, sideAt}
+use Rattle.text.specs.Pick.{all}
+use Rattle.text.specs.Reading.{starts}
+use Rattle.rules.specs.Names.{nameText}
+use Rattle.rules.specs.Conditions.{afterName}
+use Rattle.rules.specs.Side.{headText, sideText}
+use Rattle.rules.specs.Shown.{conditionsOf}
+use Rattle.rules.specs.NormalPrint.{ReadFact, readTrade}
+use Rattle.compose.specs.Shown.{Enterable}
+use Rattle.compose.specs.Printable.{partIn, Printable, by-trade}
+use Rattle.rules.specs.Correction.{endPair, cancelText}
+use Rattle.scan.proofs.Shown.{starts-take}
+use Rattle.heading.specs.Name.{nameOn}
+use Rattle.heading.specs.Head.{headAt}
+use Rattle.heading.specs.declared.NameRead.{NameRead}
+use Rattle.heading.specs.declared.NameAnswer.{NameAnswer}
+use Rattle.heading.specs.declared.NameAnswer.the-variants.{Named, NoName}
+use Rattle.nameable.proofs.Built.{Built, name-built}
+use Rattle.nameable.proofs.Head.{HeadTold, head-told}
+use Rattle.reader.specs.declared.PrintRead.{PrintRead}
+use Rattle.reader.specs.declared.ReadAnswer.{ReadAnswer}
+use Rattle.reader.specs.declared.ReadAnswer.the-variants.{Announcement, Trade, Cancel, Error, Correction, Refused}
+use Rattle.rules.specs.declared.Refusal.the-variants.{NoPrint}
+use Rattle.reader.specs.Read.{tradeSide, tradeHead, tradeAt, endAt}
+use Rattle.normal.proofs.Normal.{printable-as}
+use Rattle.longest.proofs.Side.{Unit, Headed, SideTold, side-told, two-fronts}
+use Rattle.longest.proofs.Shows.{Explains, explains-side}
+use Rattle.rules.specs.Correction.{repeatsName, correctionText}
+use Rattle.rules.specs.Line.{alike}
+use Rattle.heading.specs.Head.{againAt}
+use Rattle.heading.specs.declared.AgainRead.{AgainRead}
+use Rattle.heading.specs.declared.AgainAnswer.{AgainAnswer}
+use Rattle.heading.specs.declared.AgainAnswer.the-variants.{Again, NotAgain}
+use Rattle.nameable.proofs.Again.{AgainTold, again-told}
+use Rattle.longest.proofs.Shows.{shows-on, on-network-a, on-network-b}
+use Rattle.longest.proofs.Sound.{headed, side-text, on-network, end-told}
+use Rattle.text.proofs.Reading.{starts-append}
+use Rattle.text.specs.Reading.{heads}
+use Rattle.named.proofs.Back.{name-head}
+use Rattle.text.proofs.Tests.{is-ne}
+use Rattle.rules.specs.Tape.{isLetter}
+use Rattle.rules.specs.Announcement.{modeText, minimumText, minimumDollars, levelText}
+use Rattle.rules.specs.Correction.{cancelOpening, errorOpening}
+use Rattle.rules.specs.NormalPrint.{NormalPrint, readAnnouncement, readCancel, readError, readCorrection}
+use Rattle.rules.specs.declared.Mode.{Mode}
+use Rattle.rules.specs.declared.Mode.the-variants.{Normal, Dvd, Rpo, Mpv}
+use Rattle.rules.specs.declared.Refusal.{Refusal}
+use Rattle.announced.specs.Announced.{Announced, mode, level, announcedLength}
+use Rattle.announced.proofs.Sound.{announced-told}
+use Rattle.announced.proofs.Back.{announced-back, announced-some}
+use Rattle.compose.specs.Printable.{by-mode, by-level, by-cancel, by-error, by-correction}
+use Rattle.compose.proofs.Prints.{printable-normal}
+use Rattle.normal.proofs.Normal.{normal-printable}
+use Rattle.reader.specs.declared.EndedAnswer.{EndedAnswer}
+use Rattle.reader.specs.declared.EndedAnswer.the-variants.{Ended, NotEnded}
+use Rattle.reader.specs.Read.{endedBy, cancelSide, cancelHead, cancelAt, asCancel, asError, correctedBy, secondSide, secondHead, secondAt, correctionSide, correctionHead, correctionAt, announcedBy, printAt, readAt}
+use Rattle.reader.specs.Told.{lengthOf, nameFrom, nameLength, nameIn, nameAt, factIn}
+use Rattle.longest.specs.Claim.{Longest}
+use Rattle.longest.proofs.Sound.{trade-printable, CancelTold, cancel-told}
+use Rattle.longest.proofs.CorrectionSound.{CorrectionTold, correction-told}
+use Rattle.longest.proofs.TradeBack.{trade-reaches}
+use Rattle.longest.proofs.CancelBack.{cancel-reaches}
+use Rattle.longest.proofs.CorrectionBack.{correction-reaches}
+
+-- ---- what an answer tells
+
+data Tells (s : List ℕ) : ReadAnswer → Type 0 where
+  nothing : (r : Refusal) → Tells s (Refused r)
+  something : (r : ReadAnswer) (fact : ReadFact) → factIn s r ≡ some fact → Printable (take (lengthOf r) s) (nameIn s r) fact → Tells s r
+
+minus-none : (n : ℕ) → n ≡ n - 0
+minus-none n = omega arith
+
+less : (n m : ℕ) → n + m - n ≡ m
+less n m = omega arith
+
+-- ---- trades
+
+trade-something : (s : List ℕ) (h : NameRead) → HeadTold true s h → (x : SideRead) → sideAt Alone (h .letters) (h .a) (h .b) (drop (h .used) s) ≡ Sided x → Tells s (Trade (record { length = h .used + x .taken .used; from = 0; to = h .length; side = x .taken .side }))
+unfolding factIn lengthOf nameIn nameLength nameFrom
+trade-something s h k x e = something _ _ refl (printable-as (trade-printable s h k x e) refl (ap (λ n. take n s) (minus-none (h .length))) refl)
+
+trade-side-tells : (s : List ℕ) (h : NameRead) → HeadTold true s h → (y : SideAnswer) → sideAt Alone (h .letters) (h .a) (h .b) (drop (h .used) s) ≡ y → Tells s (tradeSide h y)
+unfolding tradeSide
+trade-side-tells s h k NoSide e = nothing NoPrint
+trade-side-tells s h k (Sided x) e = trade-something s h k x e
+
+trade-head-tells : (s : List ℕ) (y : NameAnswer) → headAt true s ≡ y → Tells s (tradeHead s y)
+unfolding tradeHead
+trade-head-tells s NoName e = nothing NoPrint
+trade-head-tells s (Named h) e = trade-side-tells s h (head-told true s h e) (sideAt Alone (h .letters) (h .a) (h .b) (drop (h .used) s)) refl
+
+trade-tells : (s : List ℕ) → Tells s (tradeAt s)
+unfolding tradeAt
+trade-tells s = trade-head-tells s (headAt true s) refl
+
+-- ---- cancels and errors
+
+some-number : (n : ℕ) → (n ≡ 0 → ⊥) → 1 ≤ n
+some-number zero h = absurd (h refl)
+some-number (suc n) h = omega arith
+
+-- of either opening
+module _ (opening s : List ℕ) (six : length opening ≡ 6) (opens : starts opening s ≡ true) (kind : Side → ReadFact)
+    (by-kind : (network unit : ℕ) (name : List ℕ) (x : Side) → Enterable network unit name → Showable network x → Printable (cancelText opening (nameText false name) network unit true true x) (nameText false name) (kind x)) where
+  data CancelTells : EndedAnswer → Type 0 where
+    not-told : CancelTells NotEnded
+    told : (x : PrintRead) → Printable (take (x .length) s) (take (x .to - x .from) (drop (x .from) s)) (kind (x .side)) → CancelTells (Ended x)
+
+  cancel-something : (h : NameRead) → HeadTold false (drop 6 s) h → (x : SideRead) → sideAt Alone (h .letters) (h .a) (h .b) (drop (6 + h .used) s) ≡ Sided x → (m : ℕ) → endAt s (6 + h .used + x .taken .used) (x .taken .side) ≡ m → (b : Bool) → eqb m 0 ≡ b → CancelTells (pick b NotEnded (Ended (record { length = m; from = 6; to = 6 + h .length; side = x .taken .side })))
+  unfolding pick
+  cancel-something h k x e m f true z = not-told
+  cancel-something h k x e m f false z =
+      let t = cancel-told opening s six opens h k x e m f (some-number m (eqb-false m 0 z)) in
+      told _ (printable-as (by-kind (t .network) (t .unit) (t .name) (x .taken .side) (t .enters) (t .shows)) (t .text) (t .named ∙ ap (λ n. take n (drop 6 s)) (sym (less 6 (h .length)))) refl)
+
+  cancel-side-tells : (h : NameRead) → HeadTold false (drop 6 s) h → (y : SideAnswer) → sideAt Alone (h .letters) (h .a) (h .b) (drop (6 + h .used) s) ≡ y → CancelTells (cancelSide s h y)
+  unfolding cancelSide endedBy
+  cancel-side-tells h k NoSide e = not-told
+  cancel-side-tells h k (Sided x) e = cancel-something h k x e (endAt s (6 + h .used + x .taken .used) (x .taken .side)) refl (eqb (endAt s (6 + h .used + x .taken .used) (x .taken .side)) 0) refl
+
+  cancel-head-tells : (y : NameAnswer) → headAt false (drop 6 s) ≡ y → CancelTells (cancelHead s y)
+  unfolding cancelHead
+  cancel-head-tells NoName e = not-told
+  cancel-head-tells (Named h) e = cancel-side-tells h (head-told false (drop 6 s) h e) (sideAt Alone (h .letters) (h .a) (h .b) (drop (6 + h .used) s)) refl
+
+  cancel-tells : CancelTells (cancelAt s)
+  unfolding cancelAt
+  cancel-tells = cancel-head-tells (headAt false (drop 6 s)) refl
+
+as-cancel : (s : List ℕ) (opens : starts cancelOpening s ≡ true) (y : EndedAnswer) → CancelTells cancelOpening s refl opens (λ x. readCancel (partIn x)) (λ n u m x e h. by-cancel n u m x e h) y → Tells s (asCancel y)
+unfolding asCancel factIn lengthOf nameIn nameLength nameFrom
+as-cancel s opens NotEnded t = nothing NoPrint
+as-cancel s opens (Ended x) (told _ p) = something (Cancel x) _ refl p
+
+as-error : (s : List ℕ) (opens : starts errorOpening s ≡ true) (y : EndedAnswer) → CancelTells errorOpening s refl opens (λ x. readError (partIn x)) (λ n u m x e h. by-error n u m x e h) y → Tells s (asError y)
+unfolding asError factIn lengthOf nameIn nameLength nameFrom
+as-error s opens NotEnded t = nothing NoPrint
+as-error s opens (Ended x) (told _ p) = something (Error x) _ refl p
+
+-- ---- corrections
+
+module _ (s : List ℕ) (opens : starts (bytes "<<CORR.") s ≡ true) where
+  corrected-tells : (h : NameRead) (x y : Side) (m : ℕ) → (1 ≤ m → Printable (take m s) (take (h .length) (drop 7 s)) (readCorrection (partIn x) (partIn y))) → (b : Bool) → eqb m 0 ≡ b → Tells s (pick b (Refused NoPrint) (Correction (record { length = m; from = 7; to = 7 + h .length; original = x; correcting = y })))
+  unfolding pick factIn lengthOf nameIn nameLength nameFrom
+  corrected-tells h x y m p true z = nothing NoPrint
+  corrected-tells h x y m p false z = something _ _ refl (printable-as (p (some-number m (eqb-false m 0 z))) refl (ap (λ n. take n (drop 7 s)) (sym (less 7 (h .length)))) refl)
+
+  module _ (h : NameRead) (k : HeadTold false (drop 7 s) h) (x : SideRead) (e : sideAt Alone (h .letters) (h .a) (h .b) (drop (7 + h .used) s) ≡ Sided x) (was : starts (bytes "WAS.") (drop (7 + h .used + x .taken .used) s) ≡ true) where
+    module _ (g : AgainRead) (f : againAt (take (h .length) (drop 7 s)) (drop (7 + h .used + x .taken .used + 4) s) ≡ Again g) where
+      correction-print : (y : SideRead) → sideAt (With (x .volume)) (g .letters) (x .taken .a) (x .taken .b) (drop (7 + h .used + x .taken .used + 4 + g .used) s) ≡ Sided y → alike (repeatsName (y .taken .side .letters)) (leb 1 (g .used)) ≡ true → (m : ℕ) → endAt s (7 + h .used + x .taken .used + 4 + g .used + y .taken .used) (y .taken .side) ≡ m → 1 ≤ m → Printable (take m s) (take (h .length) (drop 7 s)) (readCorrection (partIn (x .taken .side)) (partIn (y .taken .side)))
+      correction-print y d q m z o =
+          let t = correction-told s opens h k x e was g f y d q m z o in
+          printable-as (by-correction (t .on) (t .trades-in) (t .entered-name) (x .taken .side) (y .taken .side) (t .enters) (t .shows-original) (t .shows-correcting)) (t .text) (t .named) refl
+
+      duly-by : (y : SideRead) → sideAt (With (x .volume)) (g .letters) (x .taken .a) (x .taken .b) (drop (7 + h .used + x .taken .used + 4 + g .used) s) ≡ Sided y → (b : Bool) → alike (repeatsName (y .taken .side .letters)) (leb 1 (g .used)) ≡ b → (m : ℕ) → endAt s (7 + h .used + x .taken .used + 4 + g .used + y .taken .used) (y .taken .side) ≡ m
+          → Tells s (pick b (pick (eqb m 0) (Refused NoPrint) (Correction (record { length = m; from = 7; to = 7 + h .length; original = x .taken .side; correcting = y .taken .side }))) (Refused NoPrint))
+      unfolding pick
+      duly-by y d true q m z = corrected-tells h (x .taken .side) (y .taken .side) m (λ o. correction-print y d q m z o) (eqb m 0) refl
+      duly-by y d false q m z = nothing NoPrint
+
+      duly-tells : (y : SideRead) → sideAt (With (x .volume)) (g .letters) (x .taken .a) (x .taken .b) (drop (7 + h .used + x .taken .used + 4 + g .used) s) ≡ Sided y → (b : Bool) → alike (repeatsName (y .taken .side .letters)) (leb 1 (g .used)) ≡ b → Tells s (pick b (correctedBy h (x .taken .side) (y .taken .side) (endAt s (7 + h .used + x .taken .used + 4 + g .used + y .taken .used) (y .taken .side))) (Refused NoPrint))
+      unfolding correctedBy
+      duly-tells y d b q = duly-by y d b q (endAt s (7 + h .used + x .taken .used + 4 + g .used + y .taken .used) (y .taken .side)) refl
+
+      second-side-tells : (y : SideAnswer) → sideAt (With (x .volume)) (g .letters) (x .taken .a) (x .taken .b) (drop (7 + h .used + x .taken .used + 4 + g .used) s) ≡ y → Tells s (secondSide s h (x .taken .side) (7 + h .used + x .taken .used + 4 + g .used) (g .used) y)
+      unfolding secondSide
+      second-side-tells NoSide d = nothing NoPrint
+      second-side-tells (Sided y) d = duly-tells y d (alike (repeatsName (y .taken .side .letters)) (leb 1 (g .used))) refl
+
+    second-head-tells : (y : AgainAnswer) → againAt (take (h .length) (drop 7 s)) (drop (7 + h .used + x .taken .used + 4) s) ≡ y → Tells s (secondHead s h x (7 + h .used + x .taken .used + 4) y)
+    unfolding secondHead
+    second-head-tells NotAgain f = nothing NoPrint
+    second-head-tells (Again g) f = second-side-tells g f (sideAt (With (x .volume)) (g .letters) (x .taken .a) (x .taken .b) (drop (7 + h .used + x .taken .used + 4 + g .used) s)) refl
+
+  second-tells : (h : NameRead) → HeadTold false (drop 7 s) h → (x : SideRead) → sideAt Alone (h .letters) (h .a) (h .b) (drop (7 + h .used) s) ≡ Sided x → (b : Bool) → starts (bytes "WAS.") (drop (7 + h .used + x .taken .used) s) ≡ b
+      → Tells s (pick b (secondHead s h x (7 + h .used + x .taken .used + 4) (againAt (take (h .length) (drop 7 s)) (drop (7 + h .used + x .taken .used + 4) s))) (Refused NoPrint))
+  unfolding pick
+  second-tells h k x e true w = second-head-tells h k x e w (againAt (take (h .length) (drop 7 s)) (drop (7 + h .used + x .taken .used + 4) s)) refl
+  second-tells h k x e false w = nothing NoPrint
+
+  correction-side-tells : (h : NameRead) → HeadTold false (drop 7 s) h → (y : SideAnswer) → sideAt Alone (h .letters) (h .a) (h .b) (drop (7 + h .used) s) ≡ y → Tells s (correctionSide s h y)
+  unfolding correctionSide secondAt
+  correction-side-tells h k NoSide e = nothing NoPrint
+  correction-side-tells h k (Sided x) e = second-tells h k x e (starts (bytes "WAS.") (drop (7 + h .used + x .taken .used) s)) refl
+
+  correction-head-tells : (y : NameAnswer) → headAt false (drop 7 s) ≡ y → Tells s (correctionHead s y)
+  unfolding correctionHead
+  correction-head-tells NoName e = nothing NoPrint
+  correction-head-tells (Named h) e = correction-side-tells h (head-told false (drop 7 s) h e) (sideAt Alone (h .letters) (h .a) (h .b) (drop (7 + h .used) s)) refl
+
+  correction-tells : Tells s (correctionAt s)
+  unfolding correctionAt
+  correction-tells = correction-head-tells (headAt false (drop 7 s)) refl
+
+-- ---- announcements
+
+announced-printable : (s : List ℕ) (n : ℕ) → Announced (take n s) → Printable (take n s) [] (readAnnouncement (take n s))
+unfolding between
+announced-printable s n (mode m k l u e) = printable-as (by-mode m k (both (sym (is-le 1 k l)) (sym (is-le k 100 u)))) (sym e) refl (ap readAnnouncement (sym e))
+announced-printable s n (level k l u e) = printable-as (by-level k (both (sym (is-le 5000 k l)) (sym (is-le k 100000 u)))) (sym e) refl (ap readAnnouncement (sym e))
+
+announcement-by : (s : List ℕ) (n : ℕ) → n ≡ announcedLength s → (b : Bool) → eqb n 0 ≡ b → Tells s (pick b (Refused NoPrint) (Announcement n))
+unfolding pick factIn lengthOf nameIn nameLength nameFrom
+announcement-by s n e true z = nothing NoPrint
+announcement-by s n e false z = something _ _ refl (announced-printable s n (announced-told s n e (some-number n (eqb-false n 0 z))))
+
+announcement-tells : (s : List ℕ) → Tells s (announcedBy (announcedLength s))
+unfolding announcedBy
+announcement-tells s = announcement-by s (announcedLength s) refl (eqb (announcedLength s) 0) refl
+
+-- ---- any print
+
+any-tells : (s : List ℕ) (a b : Bool) → starts (bytes "<<CORR.") s ≡ b → (c : Bool) → starts (bytes "<<CXL.") s ≡ c → (d : Bool) → starts (bytes "<<ERR.") s ≡ d
+    → Tells s (pick a (announcedBy (announcedLength s)) (pick b (correctionAt s) (pick c (asCancel (cancelAt s)) (pick d (asError (cancelAt s)) (tradeAt s)))))
+unfolding pick
+any-tells s true b e c f d g = announcement-tells s
+any-tells s false true e c f d g = correction-tells s e
+any-tells s false false e true f d g = as-cancel s f (cancelAt s) (cancel-tells cancelOpening s refl f (λ x. readCancel (partIn x)) (λ n u m x e h. by-cancel n u m x e h))
+any-tells s false false e false f true g = as-error s g (cancelAt s) (cancel-tells errorOpening s refl g (λ x. readError (partIn x)) (λ n u m x e h. by-error n u m x e h))
+any-tells s false false e false f false g = trade-tells s
+
+print-tells : (s : List ℕ) → Tells s (printAt s)
+unfolding printAt
+print-tells s = any-tells s (starts (bytes "<<<") s) (starts (bytes "<<CORR.") s) refl (starts (bytes "<<CXL.") s) refl (starts (bytes "<<ERR.") s) refl
+
+-- ---- whatever one line can print is reached
+
+-- by the first text that stands
+first-announced : (s : List ℕ) → starts (bytes "<<<") s ≡ true → printAt s ≡ announcedBy (announcedLength s)
+unfolding printAt pick
+first-announced s a = rw a
+
+first-correction : (s : List ℕ) → starts (bytes "<<<") s ≡ false → starts (bytes "<<CORR.") s ≡ true → printAt s ≡ correctionAt s
+unfolding printAt pick
+first-correction s a b = rw (a, b)
+
+first-cancel : (s : List ℕ) → starts (bytes "<<<") s ≡ false → starts (bytes "<<CORR.") s ≡ false → starts (bytes "<<CXL.") s ≡ true → printAt s ≡ asCancel (cancelAt s)
+unfolding printAt pick
+first-cancel s a b c = rw (a, b, c)
+
+first-error : (s : List ℕ) → starts (bytes "<<<") s ≡ false → starts (bytes "<<CORR.") s ≡ false → starts (bytes "<<CXL.") s ≡ false → starts (bytes "<<ERR.") s ≡ true → printAt s ≡ asError (cancelAt s)
+unfolding printAt pick
+first-error s a b c d = rw (a, b, c, d)
+
+first-trade : (s : List ℕ) → starts (bytes "<<<") s ≡ false → starts (bytes "<<CORR.") s ≡ false → starts (bytes "<<CXL.") s ≡ false → starts (bytes "<<ERR.") s ≡ false → printAt s ≡ tradeAt s
+unfolding printAt pick
+first-trade s a b c d = rw (a, b, c, d)
+
+-- a letter is no mark
+mark-no-letter : isLetter 60 ≡ false
+unfolding isLetter
+mark-no-letter = refl
+
+letter-unlike : (a c : ℕ) → isLetter c ≡ true → isLetter a ≡ false → eqb a c ≡ false
+letter-unlike a c h k = go (eqb a c) refl
+  where
+    go : (b : Bool) → eqb a c ≡ b → b ≡ false
+    go true e = absurd (false-true (sym k ∙ ap isLetter (eqb-true a c e) ∙ h))
+    go false e = refl
+
+not-mark : (p : List ℕ) (s : List ℕ) → heads isLetter s ≡ true → starts (60 ∷ p) s ≡ false
+unfolding starts
+not-mark p [] h = refl
+not-mark p (c ∷ s) h = ap (λ b. b && starts p s) (letter-unlike 60 c h mark-no-letter)
+
+mode-opens : (m : Mode) (n : ℕ) (R : List ℕ) → starts (bytes "<<<") (modeText m n ++ R) ≡ true
+unfolding modeText minimumText starts
+mode-opens Normal n R = refl
+mode-opens Dvd n R = refl
+mode-opens Rpo n R = refl
+mode-opens Mpv n R = refl
+
+level-opens : (n : ℕ) (R : List ℕ) → starts (bytes "<<<") (levelText n ++ R) ≡ true
+unfolding levelText starts
+level-opens n R = refl
+
+announced-length : (t R : List ℕ) → Announced t → starts (bytes "<<<") (t ++ R) ≡ true → length t ≤ lengthOf (printAt (t ++ R))
+unfolding announcedBy pick lengthOf
+announced-length t R a s =
+    let z : eqb (length t) 0 ≡ false = sym (is-ne (length t) 0 (λ e. omega (e, announced-some t a, arith))) in
+    rw (first-announced (t ++ R) s, announced-back t R a, z) (omega arith)
+
+in-range : (low high n : ℕ) → between low high n ≡ true → (low ≤ n) × (n ≤ high)
+unfolding between
+in-range low high n h = (leb-true low n (and-left (leb low n) _ h), leb-true n high (and-right (leb low n) _ h))
+
+front-first : (n a v p t r : List ℕ) → ((n ++ a) ++ v ++ p ++ t) ++ r ≡ n ++ (a ++ (v ++ (p ++ (t ++ r))))
+front-first n a v p t r = simp append-assoc
+
+heads-on : (t u : List ℕ) → heads isLetter t ≡ true → heads isLetter (t ++ u) ≡ true
+heads-on [] u h = absurd (false-true h)
+heads-on (c ∷ t) u h = h
+
+module _ (network unit : ℕ) (name : List ℕ) (e : Enterable network unit name) where
+  trade-letter : (x : Side) (R : List ℕ) → heads isLetter (sideText (nameText true name) network unit true true x ++ R) ≡ true
+  unfolding sideText headText opt
+  trade-letter x R = ap (heads isLetter) (front-first (nameText true name) (afterName (x .letters)) (volumeText network unit (x .volume)) (priceText true (x .price)) (tailText x) R) ∙ heads-on (nameText true name) _ (name-head network name (e .plain) true)
+
+  cancel-first : (x : Side) (R : List ℕ) → printAt (cancelText cancelOpening (nameText false name) network unit true true x ++ R) ≡ asCancel (cancelAt (cancelText cancelOpening (nameText false name) network unit true true x ++ R))
+  unfolding cancelText starts
+  cancel-first x R = first-cancel (cancelText cancelOpening (nameText false name) network unit true true x ++ R) refl refl refl
+
+  error-first : (x : Side) (R : List ℕ) → printAt (cancelText errorOpening (nameText false name) network unit true true x ++ R) ≡ asError (cancelAt (cancelText errorOpening (nameText false name) network unit true true x ++ R))
+  unfolding cancelText starts
+  error-first x R = first-error (cancelText errorOpening (nameText false name) network unit true true x ++ R) refl refl refl refl
+
+  correction-first : (x y : Side) (R : List ℕ) → printAt (correctionText (nameText false name) network unit true true x y ++ R) ≡ correctionAt (correctionText (nameText false name) network unit true true x y ++ R)
+  unfolding correctionText starts
+  correction-first x y R = first-correction (correctionText (nameText false name) network unit true true x y ++ R) refl refl
+
+  trade-reached : (x : Side) → Showable network x → (R : List ℕ) → length (sideText (nameText true name) network unit true true x) ≤ lengthOf (printAt (sideText (nameText true name) network unit true true x ++ R))
+  unfolding lengthOf
+  trade-reached x h R =
+      let s = sideText (nameText true name) network unit true true x ++ R in
+      let l = trade-letter x R in
+      let r = trade-reaches network unit name x e h R in
+      rw (first-trade s (not-mark _ s l) (not-mark _ s l) (not-mark _ s l) (not-mark _ s l), r .is) (r .far)
+
+  cancel-reached : (x : Side) → Showable network x → (R : List ℕ) → length (cancelText cancelOpening (nameText false name) network unit true true x) ≤ lengthOf (printAt (cancelText cancelOpening (nameText false name) network unit true true x ++ R))
+  unfolding lengthOf asCancel
+  cancel-reached x h R =
+      let r = cancel-reaches cancelOpening refl network unit name x e h R in
+      rw (cancel-first x R, r .is) (r .far)
+
+  error-reached : (x : Side) → Showable network x → (R : List ℕ) → length (cancelText errorOpening (nameText false name) network unit true true x) ≤ lengthOf (printAt (cancelText errorOpening (nameText false name) network unit true true x ++ R))
+  unfolding lengthOf asError
+  error-reached x h R =
+      let r = cancel-reaches errorOpening refl network unit name x e h R in
+      rw (error-first x R, r .is) (r .far)
+
+  correction-reached : (x y : Side) → Showable network x → Showable network y → (R : List ℕ) → length (correctionText (nameText false name) network unit true true x y) ≤ lengthOf (printAt (correctionText (nameText false name) network unit true true x y ++ R))
+  unfolding lengthOf
+  correction-reached x y h i R =
+      let r = correction-reaches network unit name x y e h i R in
+      rw (correction-first x y R, r .is) (r .far)
+
+print-reaches : {t n : List ℕ} {f : ReadFact} → Printable t n f → (R : List ℕ) → length t ≤ lengthOf (printAt (t ++ R))
+print-reaches (by-mode m n h) R = let k = in-range 1 100 n h in announced-length (modeText m n) R (mode m n (k .0) (k .1) refl) (mode-opens m n R)
+print-reaches (by-level n h) R = let k = in-range 5000 100000 n h in announced-length (levelText n) R (level n (k .0) (k .1) refl) (level-opens n R)
+print-reaches (by-trade network unit name x e h) R = trade-reached network unit name e x h R
+print-reaches (by-cancel network unit name x e h) R = cancel-reached network unit name e x h R
+print-reaches (by-error network unit name x e h) R = error-reached network unit name e x h R
+print-reaches (by-correction network unit name x y e h i) R = correction-reached network unit name e x y h i R
+
+hasFact : Option ReadFact → Bool
+hasFact (some f) = true
+hasFact none = false
+
+no-fact : (f : ReadFact) → none ≡ some f → ⊥
+unfolding hasFact
+no-fact f e = false-true (ap hasFact e)
+
+theFact : Option ReadFact → ReadFact
+theFact (some f) = f
+theFact none = readAnnouncement []
+
+some-same-fact : {f g : ReadFact} → some f ≡ some g → f ≡ g
+unfolding theFact
+some-same-fact e = ap theFact e
+
+-- no facts, no length
+no-length : (s : List ℕ) (r : ReadAnswer) → factIn s r ≡ none → lengthOf r ≡ 0
+unfolding factIn lengthOf
+no-length s (Announcement n) e = absurd (no-fact _ (sym e))
+no-length s (Trade x) e = absurd (no-fact _ (sym e))
+no-length s (Cancel x) e = absurd (no-fact _ (sym e))
+no-length s (Error x) e = absurd (no-fact _ (sym e))
+no-length s (Correction x) e = absurd (no-fact _ (sym e))
+no-length s (Refused r) e = refl
+
+told-normal : (s : List ℕ) (r : ReadAnswer) → Tells s r → (fact : ReadFact) → factIn s r ≡ some fact → NormalPrint (take (lengthOf r) s) (nameIn s r) fact
+unfolding factIn
+told-normal s (Refused q) (nothing _) fact e = absurd (no-fact fact e)
+told-normal s r (something _ f g p) fact e = subst (NormalPrint (take (lengthOf r) s) (nameIn s r)) (some-same-fact (sym g ∙ e)) (printable-normal p)
+
+reaches : (s text name rest : List ℕ) (fact : ReadFact) → NormalPrint text name fact → s ≡ text ++ rest → length text ≤ lengthOf (printAt s)
+reaches s text name rest fact p e = rw e (print-reaches (normal-printable p) rest)
+
+too-short : (n m : ℕ) → 1 ≤ n → n ≤ m → m ≡ 0 → ⊥
+too-short n m h k e = omega (h, k, e, arith)
+
+-- THE ANSWER IS THE LONGEST NORMAL PRINT AT THE PLACE
+pub longest-print : (tape : List ℕ) (place : ℕ) → Longest tape place
+unfolding readAt nameAt
+longest-print tape place =
+    let s = drop place tape in
+    record {
+      told = λ fact e. told-normal s (printAt s) (print-tells s) fact e;
+      longest = λ text name rest fact p e. reaches s text name rest fact p e;
+      refused = λ e text name rest fact p q. too-short (length text) (lengthOf (printAt s)) (p .some-text) (reaches s text name rest fact p q) (no-length s (printAt s) e);
+    }
