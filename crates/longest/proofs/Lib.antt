@@ -11,3 +11,4 @@ pub mod CancelBack
 pub mod CorrectionBack
 pub mod CorrectionSound
 pub mod Longest
+pub mod Determined

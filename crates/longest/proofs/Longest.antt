@@ -312,19 +312,19 @@ letter-unlike a c h k = go (eqb a c) refl
     go true e = absurd (false-true (sym k ∙ ap isLetter (eqb-true a c e) ∙ h))
     go false e = refl
 
-not-mark : (p : List ℕ) (s : List ℕ) → heads isLetter s ≡ true → starts (60 ∷ p) s ≡ false
+pub not-mark : (p : List ℕ) (s : List ℕ) → heads isLetter s ≡ true → starts (60 ∷ p) s ≡ false
 unfolding starts
 not-mark p [] h = refl
 not-mark p (c ∷ s) h = ap (λ b. b && starts p s) (letter-unlike 60 c h mark-no-letter)
 
-mode-opens : (m : Mode) (n : ℕ) (R : List ℕ) → starts (bytes "<<<") (modeText m n ++ R) ≡ true
+pub mode-opens : (m : Mode) (n : ℕ) (R : List ℕ) → starts (bytes "<<<") (modeText m n ++ R) ≡ true
 unfolding modeText minimumText starts
 mode-opens Normal n R = refl
 mode-opens Dvd n R = refl
 mode-opens Rpo n R = refl
 mode-opens Mpv n R = refl
 
-level-opens : (n : ℕ) (R : List ℕ) → starts (bytes "<<<") (levelText n ++ R) ≡ true
+pub level-opens : (n : ℕ) (R : List ℕ) → starts (bytes "<<<") (levelText n ++ R) ≡ true
 unfolding levelText starts
 level-opens n R = refl
 
@@ -346,7 +346,7 @@ heads-on [] u h = absurd (false-true h)
 heads-on (c ∷ t) u h = h
 
 module _ (network unit : ℕ) (name : List ℕ) (e : Enterable network unit name) where
-  trade-letter : (x : Side) (R : List ℕ) → heads isLetter (sideText (nameText true name) network unit true true x ++ R) ≡ true
+  pub trade-letter : (x : Side) (R : List ℕ) → heads isLetter (sideText (nameText true name) network unit true true x ++ R) ≡ true
   unfolding sideText headText opt
   trade-letter x R = ap (heads isLetter) (front-first (nameText true name) (afterName (x .letters)) (volumeText network unit (x .volume)) (priceText true (x .price)) (tailText x) R) ∙ heads-on (nameText true name) _ (name-head network name (e .plain) true)
 
