@@ -12,3 +12,4 @@ pub mod CorrectionBack
 pub mod CorrectionSound
 pub mod Longest
 pub mod Determined
+pub mod RoundTrip
