@@ -17,9 +17,12 @@ use Rattle.rules.specs.Tape.{isLetter, isUpper, isRaised}
 use Rattle.rules.specs.Columns.{word, notBlank, isBlank}
 use Rattle.rules.specs.Names.{rootField, suffixField, temporaryField, appendageField, texts, partText, nameText, listedSuffixes, isReserved, isSuffix, isTemporary, isAppendage, lawfulField, lawfulName}
 use Rattle.rules.specs.Conditions.{afterName}
+use Rattle.rules.specs.Side.{headText, tailText, sideText}
 use Rattle.rules.specs.declared.Letters.{Letters}
+use Rattle.rules.specs.declared.Side.{Side}
 use Rattle.volumes.specs.Reading.{hundreds, tens, shares, markAt}
 use Rattle.conditions.proofs.TailBack.{Ends}
+use Rattle.trade.proofs.SideBack.{side-lower}
 use Rattle.named.specs.Plain.{NamePlain}
 use Rattle.named.proofs.Root.{false-true, both, either, root-text}
 use Rattle.named.proofs.Parts.{each, member-each, classEnds, suffix-case, field-case}
@@ -313,3 +316,7 @@ module _ (network : ℕ) (n : List ℕ) (h : NamePlain network n) where
       simp append-assoc
       (fresh-text (word (rootField n)) _ root-is
       (simp append-assoc at (mild-append (partText (word (suffixField n)) ++ (opt b (partText (word (temporaryField n))) ++ partText (word (appendageField n)))) (afterName x ++ s) (tail-mild b) (mild-append (afterName x) s (conditions-mild x) (lower-mild s k)))))
+
+pub side-fresh : (network : ℕ) (n : List ℕ) → NamePlain network n → (b : Bool) (unit : ℕ) (full shows : Bool) (x : Side) → 1 ≤ x .price .n → (s : List ℕ) → Fresh (sideText (nameText b n) network unit full shows x ++ s)
+unfolding sideText headText
+side-fresh network n plain b unit full shows x h s = rw (append-assoc, append-assoc, append-assoc) (fresh-name network n plain b (x .letters) _ (side-lower network unit (x .volume) full shows (x .price) (tailText x ++ s) h))

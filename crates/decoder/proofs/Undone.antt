@@ -126,7 +126,7 @@ end-back x s = rw (given-is (x .letters .g) (units (x .previous))) (go (x .lette
     go true = refl
     go false = past-append (bytes ">>") s
 
-end-ends : (x : Side) (s : List ℕ) → Fresh s → Ends (endPair x ++ s)
+pub end-ends : (x : Side) (s : List ℕ) → Fresh s → Ends (endPair x ++ s)
 unfolding endPair opt
 end-ends x s f = go (x .letters .g)
   where
@@ -138,7 +138,7 @@ head-of : (names : Names) (network i : ℕ) → Known names network i → (unit 
 unfolding sideShown
 head-of names network i k unit full shows x h = head-back names network i k false x h
 
-end-of : (name : List ℕ) (network unit : ℕ) (full shows : Bool) (x : Side) (s : List ℕ) → ended ((sideShown name network unit full shows x) .tail) (endPair x ++ s) ≡ s
+pub end-of : (name : List ℕ) (network unit : ℕ) (full shows : Bool) (x : Side) (s : List ℕ) → ended ((sideShown name network unit full shows x) .tail) (endPair x ++ s) ≡ s
 unfolding sideShown
 end-of name network unit full shows x s = end-back x s
 
@@ -175,7 +175,7 @@ module _ (names : Names) (network i : ℕ) (k : Known names network i) (d : Carr
 -- ---- a correction
 
 -- the conditions after the repeated name, or none
-unrepeated : (x : Letters) → repeatsName x ≡ false → (afterName x ≡ []) × (afterOf x ≡ after false plain)
+pub unrepeated : (x : Letters) → repeatsName x ≡ false → (afterName x ≡ []) × (afterOf x ≡ after false plain)
 unfolding repeatsName afterName afterOf soldOf opt pick
 unrepeated x h = go (x .s) (x .l) (x .o) (x .c) (x .k) (x .n) (x .m) (x .b) h
   where
@@ -190,7 +190,7 @@ unrepeated x h = go (x .s) (x .l) (x .o) (x .c) (x .k) (x .n) (x .m) (x .b) h
     go false false false false false false true b h = absurd (false-true (sym h))
     go false false false false false false false b h = (refl, refl)
 
-after-run : (t : List ℕ) (a : After) → heads isLetter t ≡ true → (divide t) .conditions ≡ some a → afterBy t ≡ a
+pub after-run : (t : List ℕ) (a : After) → heads isLetter t ≡ true → (divide t) .conditions ≡ some a → afterBy t ≡ a
 unfolding afterBy
 after-run [] a h e = absurd (false-true h)
 after-run (c ∷ t) a h e = rw (e, afterBy)

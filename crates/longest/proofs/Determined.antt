@@ -49,6 +49,7 @@ use Rattle.decoder.specs.Decode.{conditionsBy, afterBy}
 use Rattle.decoder.specs.Lawful.{LawfulSide}
 use Rattle.decoder.proofs.Sides.{conditions-by}
 use Rattle.decoder.proofs.Fresh.{Fresh, fresh-end, fresh-was}
+use Rattle.decoder.proofs.Undone.{unrepeated, after-run}
 use Rattle.longest.proofs.Longest.{not-mark, mode-opens, level-opens, trade-letter}
 use Rattle.longest.proofs.SideBack.{some-price, sound-price, shown-sold, shown-previous}
 
@@ -169,27 +170,6 @@ unfolding opt all
 upper-if true t h = h
 upper-if false t h = refl
 
--- letters that do not repeat the name say nothing after it
-nothing-said : (x : Letters) → repeatsName x ≡ false → (afterName x ≡ []) × (afterOf x ≡ after false plain)
-unfolding repeatsName afterName afterOf soldOf opt pick
-nothing-said x h = go (x .s) (x .l) (x .o) (x .c) (x .k) (x .n) (x .m) (x .b) h
-  where
-    go : (s l o c k n m b : Bool) → (s || (l || (o || (c || (k || (n || (m || b))))))) ≡ false
-        → (opt (n || m) (bytes ".ND") ++ opt o (bytes ".OPD") ++ opt s (bytes ".SLD") ++ opt l (bytes ".SLD.LAST") ≡ []) × (after (n || m) (pick o opened (pick s sold (pick l last plain))) ≡ after false plain)
-    go true l o c k n m b h = absurd (false-true (sym h))
-    go false true o c k n m b h = absurd (false-true (sym h))
-    go false false true c k n m b h = absurd (false-true (sym h))
-    go false false false true k n m b h = absurd (false-true (sym h))
-    go false false false false true n m b h = absurd (false-true (sym h))
-    go false false false false false true m b h = absurd (false-true (sym h))
-    go false false false false false false true b h = absurd (false-true (sym h))
-    go false false false false false false false b h = (refl, refl)
-
-after-run : (t : List ℕ) (a : After) → heads isLetter t ≡ true → (divide t) .conditions ≡ some a → afterBy t ≡ a
-unfolding afterBy
-after-run [] a h e = absurd (false-true h)
-after-run (c ∷ t) a h e = rw (e, afterBy)
-
 heads-on : (t u : List ℕ) → heads isLetter t ≡ true → heads isLetter (t ++ u) ≡ true
 heads-on [] u h = absurd (false-true h)
 heads-on (c ∷ t) u h = h
@@ -197,7 +177,7 @@ heads-on (c ∷ t) u h = h
 again-after : (network : ℕ) (name : List ℕ) → NamePlain network name → (x : Letters) → oneSold x ≡ true → (b : Bool) → repeatsName x ≡ b → afterBy (opt b (nameText false name) ++ afterName x) ≡ afterOf x
 unfolding opt afterBy
 again-after network name e x o true r = after-run (nameText false name ++ afterName x) (afterOf x) (heads-on (nameText false name) (afterName x) (name-head network name e false)) (ap (λ d. d .conditions) (name-back network name e false x o))
-again-after network name e x o false r = let u = nothing-said x r in ap afterBy (u .0) ∙ sym (u .1)
+again-after network name e x o false r = let u = unrepeated x r in ap afterBy (u .0) ∙ sym (u .1)
 
 -- ---- the text of a print tells its name and its facts
 
@@ -210,7 +190,7 @@ module _ (network : ℕ) (name : List ℕ) (e : NamePlain network name) where
   after-told b x o = after-by (divide (nameText b name ++ afterName x)) (name-back network name e b x o)
 
   module _ (unit : ℕ) (x : Side) (h : Showable network x) where
-    read-side : (b : Bool) (s : List ℕ) → Ends s → readSide (sideText (nameText b name) network unit true true x ++ s) ≡ found (sideShown (nameText b name) network unit true true x) s
+    pub read-side : (b : Bool) (s : List ℕ) → Ends s → readSide (sideText (nameText b name) network unit true true x ++ s) ≡ found (sideShown (nameText b name) network unit true true x) s
     read-side b s z = side-back (nameText b name) network unit true true x s (side-ok network x h (nameText b name) (name-upper network name e b)) z
 
     head-name : (b : Bool) → (divide ((sideShown (nameText b name) network unit true true x) .head)) .name ≡ nameText b name
@@ -233,7 +213,7 @@ module _ (network : ℕ) (name : List ℕ) (e : NamePlain network name) where
     cancel-told kind = rw (read-side false (endPair x) (pair-ends x), head-name false, head-after false, part-told network unit x h (nameText false name))
 
     module _ (y : Side) (i : Showable network y) where
-      abbrev again : List ℕ
+      abbrev pub again : List ℕ
       again = opt (repeatsName (y .letters)) (nameText false name)
 
       abbrev second : List ℕ
@@ -242,8 +222,8 @@ module _ (network : ℕ) (name : List ℕ) (e : NamePlain network name) where
       again-upper : all isUpper again ≡ true
       again-upper = upper-if (repeatsName (y .letters)) (nameText false name) (name-upper network name e false)
 
-      read-second : readSide second ≡ found (sideShown again network unit true true y) (endPair y)
-      read-second = side-back again network unit true true y (endPair y) (side-ok network y i again again-upper) (pair-ends y)
+      pub read-second : (s : List ℕ) → Ends s → readSide (sideText again network unit true true y ++ s) ≡ found (sideShown again network unit true true y) s
+      read-second s z = side-back again network unit true true y s (side-ok network y i again again-upper) z
 
       second-after : afterBy ((sideShown again network unit true true y) .head) ≡ afterOf (y .letters)
       unfolding sideShown headText
@@ -251,11 +231,11 @@ module _ (network : ℕ) (name : List ℕ) (e : NamePlain network name) where
 
       correction-told : correctionTold (sideText (nameText false name) network unit true true x ++ (bytes "WAS." ++ second)) ≡ told-as (nameText false name) (readCorrection (partIn x) (partIn y))
       unfolding correctionTold
-      correction-told = rw (read-side false (bytes "WAS." ++ second) (fresh-was second), past-append (bytes "WAS.") second, read-second, head-name false, head-after false, part-told network unit x h (nameText false name), second-after, part-told network unit y i again)
+      correction-told = rw (read-side false (bytes "WAS." ++ second) (fresh-was second), past-append (bytes "WAS.") second, read-second (endPair y) (pair-ends y), head-name false, head-after false, part-told network unit x h (nameText false name), second-after, part-told network unit y i again)
 
 -- ---- of any print
 
-parts : (a b c : List ℕ) → a ++ bytes "WAS." ++ b ++ c ≡ a ++ (bytes "WAS." ++ (b ++ c))
+pub parts : (a b c : List ℕ) → a ++ bytes "WAS." ++ b ++ c ≡ a ++ (bytes "WAS." ++ (b ++ c))
 parts a b c = append-assoc (a ++ bytes "WAS.") b c ∙ append-assoc a (bytes "WAS.") (b ++ c)
 
 module _ (network unit : ℕ) (name : List ℕ) (e : Enterable network unit name) where

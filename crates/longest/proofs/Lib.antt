@@ -12,4 +12,6 @@ pub mod CorrectionBack
 pub mod CorrectionSound
 pub mod Longest
 pub mod Determined
+pub mod Following
 pub mod RoundTrip
+pub mod Tape

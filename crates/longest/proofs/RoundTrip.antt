@@ -1,41 +1,60 @@
--- The reader at a normal print that nothing follows gives its length, its name and its facts. Assumes nothing.
-use Prim.Native.Nat.{ℕ, _≤_}
+-- The reader at a normal print gives its length, its name and its facts: where nothing follows, and where another normal print follows. Assumes nothing.
+use Prim.Native.Nat.{ℕ, _+_, _≤_}
 use native.Mathlib.Omega.{arith}
 use mathlib.Core.Path.{_≡_, refl, sym, ap, _∙_, subst}
-use mathlib.Core.List.{List, [], _++_, append-nil}
+use mathlib.Core.List.{List, [], _∷_, _++_, append-nil}
 use mathlib.Core.Option.{Option, none, some}
 use lib.ListN.{length, take, drop}
-use lib.Seq.{take-all}
+use lib.Seq.{take-at, length-take-le}
 use Rattle.rules.specs.NormalPrint.{ReadFact, NormalPrint}
 use Rattle.reader.specs.declared.ReadAnswer.{ReadAnswer}
 use Rattle.reader.specs.Read.{printAt, readAt}
 use Rattle.reader.specs.Told.{lengthOf, nameAt, factIn}
 use Rattle.reader.proofs.Bounds.{Within, print-within}
+use Rattle.nameable.proofs.Counts.{take-drop}
+use Rattle.decoder.proofs.Fresh.{Fresh, fresh-end}
 use Rattle.longest.specs.Claim.{Longest}
+use Rattle.longest.specs.Back.{Back}
 use Rattle.longest.proofs.Longest.{longest-print}
 use Rattle.longest.proofs.Determined.{determined}
+use Rattle.longest.proofs.Following.{exact, next-fresh}
 
-pub record Back (text name : List ℕ) (fact : ReadFact) : Type 0 where
-  pub length-back : lengthOf (readAt text 0) ≡ length text
-  pub name-back : nameAt text 0 ≡ name
-  pub fact-back : factIn text (readAt text 0) ≡ some fact
+module _ (text name : List ℕ) (fact : ReadFact) (p : NormalPrint text name fact) (rest : List ℕ) (f : Fresh rest) where
+  abbrev tape : List ℕ
+  tape = text ++ rest
 
--- what is told of the whole text is what was printed
-back-by : (text name : List ℕ) (fact f : ReadFact) → NormalPrint text name fact → Longest text 0 → lengthOf (readAt text 0) ≡ length text → factIn text (readAt text 0) ≡ some f → Back text name fact
-back-by text name fact f p l n e =
-    let q : NormalPrint text (nameAt text 0) f = subst (λ t. NormalPrint t (nameAt text 0) f) (ap (λ k. take k text) n ∙ take-all (length text) text (omega arith)) (l .told f e) in
-    let d = determined q p in
-    record { length-back = n; name-back = d .0; fact-back = e ∙ ap some (d .1) }
+  abbrev answer : ReadAnswer
+  answer = readAt tape 0
 
-back-from : (text name : List ℕ) (fact : ReadFact) → NormalPrint text name fact → Longest text 0 → lengthOf (readAt text 0) ≡ length text → (f : Option ReadFact) → factIn text (readAt text 0) ≡ f → Back text name fact
-back-from text name fact p l n none e = absurd (l .refused e text name [] fact p (sym (append-nil text)))
-back-from text name fact p l n (some f) e = back-by text name fact f p l n e
+  within : lengthOf answer ≤ length tape
+  unfolding readAt
+  within = (print-within tape) .print
 
-within : (text : List ℕ) → lengthOf (readAt text 0) ≤ length text
-unfolding readAt
-within text = (print-within text) .print
+  -- what is told is told of the first bytes, as many as are answered
+  front : lengthOf answer ≡ length text → take (lengthOf answer) tape ≡ text
+  front e = take-at text rest (lengthOf answer) (sym e)
 
-pub round-trip : (text name : List ℕ) (fact : ReadFact) → NormalPrint text name fact → Back text name fact
-round-trip text name fact p =
-    let l = longest-print text 0 in
-    back-from text name fact p l (omega (l .longest text name [] fact p (sym (append-nil text)), within text, arith)) (factIn text (readAt text 0)) refl
+  back-by : (g : ReadFact) → factIn tape answer ≡ some g → Back text name rest fact
+  back-by g e =
+      let l = longest-print tape 0 in
+      let q = l .told g e in
+      let most = exact p rest f (take (lengthOf answer) tape) (nameAt tape 0) (drop (lengthOf answer) tape) g q (sym (take-drop (lengthOf answer) tape)) in
+      let least = l .longest text name rest fact p refl in
+      let n : lengthOf answer ≡ length text = omega (most, least, length-take-le (lengthOf answer) tape within, arith) in
+      let d = determined (subst (λ t. NormalPrint t (nameAt tape 0) g) (front n) q) p in
+      record { length-back = n; name-back = d .0; fact-back = e ∙ ap some (d .1) }
+
+  back-from : (o : Option ReadFact) → factIn tape answer ≡ o → Back text name rest fact
+  back-from none e = absurd ((longest-print tape 0) .refused e text name rest fact p refl)
+  back-from (some g) e = back-by g e
+
+  pub read-back : Back text name rest fact
+  read-back = back-from (factIn tape answer) refl
+
+-- where nothing follows
+pub round-trip : (text name : List ℕ) (fact : ReadFact) → NormalPrint text name fact → Back text name [] fact
+round-trip text name fact p = read-back text name fact p [] fresh-end
+
+-- where another normal print follows, and anything behind it
+pub followed : (text name : List ℕ) (fact : ReadFact) → NormalPrint text name fact → (next name′ : List ℕ) (fact′ : ReadFact) → NormalPrint next name′ fact′ → (rest : List ℕ) → Back text name (next ++ rest) fact
+followed text name fact p next name′ fact′ q rest = read-back text name fact p (next ++ rest) (next-fresh q rest)

@@ -17,7 +17,7 @@ use Rattle.rules.specs.Names.{nameText, hasTemporary}
 use Rattle.rules.specs.Conditions.{afterName}
 use Rattle.rules.specs.Price.{wholePart, units, priceText}
 use Rattle.rules.specs.Volume.{volumeText}
-use Rattle.rules.specs.Side.{headText, tailText, sideText}
+use Rattle.rules.specs.Side.{headText, sideText}
 use Rattle.rules.specs.Trade.{dollars, isNormal, fullPrice, showsVolume, printsTrade, tradeFull, tradeShows, afterTrade}
 use Rattle.rules.specs.Announcement.{modeText, levelText, minimumText, stepText}
 use Rattle.rules.specs.Correction.{correctionText, cancelText, cancelOpening, errorOpening, printsCorrection, fullPrices, showsVolumes, wholeInFull, correctionFull, correctionShows, cancelFull, cancelShows, afterCorrection}
@@ -36,7 +36,6 @@ use Rattle.rules.specs.declared.Settings.{Settings}
 use Rattle.rules.specs.declared.Security.{Security}
 use Rattle.volumes.specs.Reading.{unsaid, shownOf}
 use Rattle.prices.specs.Reading.{shownPrice}
-use Rattle.trade.proofs.SideBack.{side-lower}
 use Rattle.announcement.specs.Reading.{Told, level, minimum, readAnnouncement}
 use Rattle.announcement.proofs.Back.{told, mode-back, minimum-back, level-back}
 use Rattle.named.specs.Plain.{NamePlain}
@@ -44,10 +43,9 @@ use Rattle.named.proofs.Root.{false-true}
 use Rattle.named.proofs.Back.{name-head}
 use Rattle.decoder.specs.Carried.{Carried, printedOf, carriedOf, modeTold, modeAfter, next}
 use Rattle.decoder.specs.Decode.{Names, isNameOf, nameIn, priceBy, volumeBy, Found, there, decode}
-use Rattle.decoder.specs.Lawful.{LawfulSide}
 use Rattle.decoder.proofs.Sides.{price-by, volume-by}
 use Rattle.decoder.proofs.Lookup.{no-name, unlike-name}
-use Rattle.decoder.proofs.Fresh.{Fresh, fresh-pair, fresh-name}
+use Rattle.decoder.proofs.Fresh.{Fresh, fresh-pair, side-fresh}
 use Rattle.decoder.proofs.Carries.{mode-carried, minimum-carried, level-carried}
 use Rattle.decoder.proofs.Undone.{Known, trade-undone, cancel-undone, error-undone, correction-undone, minimum-undone, mode-undone, level-undone}
 use Rattle.wholeday.specs.Fine.{FineListing, FineTrade, FineCorrection, Fine}
@@ -133,14 +131,10 @@ heads-front : (p : ℕ → Bool) (t u : List ℕ) → heads p t ≡ true → hea
 heads-front p [] u h = absurd (false-true h)
 heads-front p (c ∷ t) u h = h
 
-module _ (network : ℕ) (n : List ℕ) (plain : NamePlain network n) (b : Bool) (unit : ℕ) (full shows : Bool) (x : Side) (h : LawfulSide x) where
+module _ (network : ℕ) (n : List ℕ) (plain : NamePlain network n) (b : Bool) (unit : ℕ) (full shows : Bool) (x : Side) where
   side-some : 0 < length (sideText (nameText b n) network unit full shows x)
   unfolding sideText headText
   side-some = heads-some isLetter (sideText (nameText b n) network unit full shows x) (simp append-assoc (heads-front isLetter (nameText b n) _ (name-head network n plain b)))
-
-  side-fresh : (s : List ℕ) → Fresh (sideText (nameText b n) network unit full shows x ++ s)
-  unfolding sideText headText
-  side-fresh s = rw (append-assoc, append-assoc, append-assoc) (fresh-name network n plain b (x .letters) _ (side-lower network unit (x .volume) full shows (x .price) (tailText x ++ s) (h .price)))
 
 module _ (day e : Day) (k : Kept e) (l : Later day e) (t : Trade) (f : FineTrade day t) where
   abbrev st : Settings
@@ -211,8 +205,8 @@ module _ (day e : Day) (k : Kept e) (l : Later day e) (t : Trade) (f : FineTrade
   unfolding next tradeFact
   printed w q = record {
     follows = carried-set day i (units (x .price)) after-trade (printed-there after-trade after-entered ∙ price-moves q);
-    some-text = rw (the-print q) (side-some (s .network) (nameIn (e .names) i) (known-trade .is-plain) (showsTemporary s) (s .unit) (tradeFull st s (t .market) x) (tradeShows st s (t .market) x) x (f .side-is));
-    starts = λ r. rw (the-print q) (side-fresh (s .network) (nameIn (e .names) i) (known-trade .is-plain) (showsTemporary s) (s .unit) (tradeFull st s (t .market) x) (tradeShows st s (t .market) x) x (f .side-is) r);
+    some-text = rw (the-print q) (side-some (s .network) (nameIn (e .names) i) (known-trade .is-plain) (showsTemporary s) (s .unit) (tradeFull st s (t .market) x) (tradeShows st s (t .market) x) x);
+    starts = λ r. rw (the-print q) (side-fresh (s .network) (nameIn (e .names) i) (known-trade .is-plain) (showsTemporary s) (s .unit) (tradeFull st s (t .market) x) (tradeShows st s (t .market) x) x (f .side-is .price) r);
     undone = λ r u. rw (the-print q) (trade-undone (e .names) (s .network) i known-trade (carriedOf day) (showsTemporary s) (s .unit) (tradeFull st s (t .market) x) (tradeShows st s (t .market) x) x r (f .side-is) u ∙ ap (λ (g : Fact). there g r) (found-fact w q));
   }
 
