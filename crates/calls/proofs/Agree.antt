@@ -39,7 +39,9 @@ use Rattle.planner.specs.declared.Plan.the-variants.{Stop, Open, Enter, Change,
 use Rattle.planner.specs.Plan.{datePlan, listingPlan, unlessStopped, printPlan, tradePlan, cancelOf, cancelPlan, correctionOf, correctionPlan, linePlan, readPlan, planOf, SoundListing, SoundTrade, SoundCorrection, SoundLine}
 use Rattle.planner.proofs.Ranged.{sound-line, shaped, name-length}
 use Rattle.engine.specs.declared.Outcome.{Outcome}
-use Rattle.engine.specs.Taken.{printedName, printText, cancelled, corrected, textOf, fittedOf, asked, printOf, settingsAfter, tableAfter, namesAfter, outcomeOf}
+use Rattle.planprint.specs.Print.{printedName, printText, cancelled, corrected, textOf, fittedOf, printOf}
+use Rattle.engine.specs.Taken.{asked, outcomeOf}
+use Rattle.planstate.specs.After.{settingsAfter, tableAfter, namesAfter}
 use Rattle.calls.specs.Held.{stopOf, dayAfter, outcomeBy, ByRules}
 
 settled : (st : Settings) (table names : List ℕ) → (dayOf st table names) .settings ≡ st

@@ -18,7 +18,8 @@ use Rattle.rules.specs.declared.Refusal.the-variants.{Room}
 use Rattle.planner.specs.declared.Plan.{Plan}
 use Rattle.planner.specs.declared.Plan.the-variants.{Stop, Open, Enter, Change, Level, Step, Print, Cancel, Correct}
 use Rattle.planner.specs.Plan.{datePlan, linePlan, readPlan, planOf}
-use Rattle.engine.specs.Taken.{printedName, textOf, fittedOf, asked}
+use Rattle.planprint.specs.Print.{printedName, textOf, fittedOf}
+use Rattle.engine.specs.Taken.{asked}
 
 unfoldable pub Early : Plan → Type 0
 Early (Stop r) = Unit {0}

@@ -21,9 +21,11 @@ use Rattle.planner.specs.Plan.{planOf}
 use Rattle.engine.specs.declared.Outcome.{Outcome}
 use Rattle.engine.specs.declared.Outcome.the-variants.{Accepted, Refused}
 use Rattle.engine.specs.declared.Answer.{Answer}
-use Rattle.engine.specs.Taken.{printedName, textOf, fittedOf, asked, printOf, settingsAfter, tableAfter, namesAfter, outcomeOf, SoundPlan, Taken}
-use Rattle.engine.proofs.Sound.{sound-asked}
-use Rattle.engine.proofs.Steps.{fitted-sound}
+use Rattle.planprint.specs.Print.{printedName, textOf, fittedOf, printOf, SoundPlan}
+use Rattle.engine.specs.Taken.{asked, outcomeOf, Taken}
+use Rattle.planstate.specs.After.{settingsAfter, tableAfter, namesAfter}
+use Rattle.planprint.proofs.Sound.{sound-asked}
+use Rattle.planprint.proofs.Room.{fitted-sound}
 use Rattle.calls.specs.Held.{stopOf, dayAfter, ByRules}
 use Rattle.calls.specs.Run.{State, Sized, Lent, countOf, Run, callOf, tapeFrom, dayFrom, Holds}
 use Rattle.calls.specs.Run.Run.{done, call}

@@ -12,7 +12,9 @@ use Rattle.planner.specs.declared.Plan.{Plan}
 use Rattle.planner.specs.declared.Plan.the-variants.{Stop, Open, Enter, Change, Level, Step, Print, Cancel, Correct}
 use Rattle.engine.specs.declared.Outcome.{Outcome}
 use Rattle.engine.specs.declared.Outcome.the-variants.{Accepted, Refused}
-use Rattle.engine.specs.Taken.{asked, printOf, settingsAfter, tableAfter, namesAfter, outcomeOf}
+use Rattle.engine.specs.Taken.{asked, outcomeOf}
+use Rattle.planprint.specs.Print.{printOf}
+use Rattle.planstate.specs.After.{settingsAfter, tableAfter, namesAfter}
 
 unfoldable pub stopOf : Plan → Option Refusal
 stopOf (Stop r) = some r

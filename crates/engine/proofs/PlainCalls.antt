@@ -29,11 +29,13 @@ use Rattle.planner.specs.declared.Plan.{Plan}
 use Rattle.planner.specs.declared.Plan.the-variants.{Stop, Print}
 use Rattle.planner.specs.Plan.{printPlan, unlessStopped, tradePlan, linePlan, readPlan, planOf, SoundTrade}
 use Rattle.planner.proofs.Ranged.{sound-trade}
-use Rattle.engine.proofs.Sound.{has-unit}
+use Rattle.planprint.proofs.Sound.{has-unit}
 use Rattle.engine.specs.declared.Outcome.the-variants.{Accepted}
 use Rattle.engine.specs.declared.Answer.{Answer}
 use Rattle.engine.specs.Calls.{PlainCall}
-use Rattle.engine.specs.Taken.{printedName, printText, textOf, fittedOf, asked, printOf, settingsAfter, tableAfter, namesAfter, outcomeOf, Taken}
+use Rattle.planprint.specs.Print.{printedName, printText, textOf, fittedOf, printOf}
+use Rattle.engine.specs.Taken.{asked, outcomeOf, Taken}
+use Rattle.planstate.specs.After.{settingsAfter, tableAfter, namesAfter}
 
 -- ---- the line
 

@@ -2,11 +2,8 @@
 // of fixed size, every value of which has a meaning; the tape is lent, of any length. Nothing is required. The promise is
 // `Taken`: the outcome, the settings, every byte of both tables and every byte of the tape.
 use plainline::Plain;
-use planner::CancelPlan;
-use planner::CorrectionPlan;
 use planner::Plan;
 use planner::TradePlan;
-use rules::Mode;
 use rules::Refusal;
 use rules::Settings;
 use rules::Trade;
@@ -22,7 +19,8 @@ ghost use Rattle.table.specs.Rows.{nameOf, withRow};
 ghost use Rattle.planner.specs.Plan.{SoundTrade};
 ghost use Rattle.engine.specs.declared.Outcome.the-variants.{Refused};
 ghost use Rattle.engine.specs.Calls.{PlainCall, TradeCall, answered};
-ghost use Rattle.engine.specs.Taken.{SoundPrint, SoundCancel, SoundCorrect, SoundPlan, printedName, printText, cancelled, corrected, textOf, fittedOf, asked, settingsAfter, tableAfter, namesAfter, outcomeOf, Taken};
+ghost use Rattle.planprint.specs.Print.{SoundPrint, printText};
+ghost use Rattle.engine.specs.Taken.{asked, outcomeOf, Taken};
 
 // Accepted, with the length of its print, 0 where nothing prints; or refused.
 pub enum Outcome {
@@ -33,224 +31,6 @@ pub enum Outcome {
 pub struct Answer {
     pub outcome: Outcome,
     pub settings: Settings,
-}
-
-// ---- the name as it prints
-
-fn write_printed_name(buffer: &mut [u8], names: &[u8; 9728], line: &[u8], p: Plan) -> usize
-    requires { ⌜ SoundPlan (now line) p × (22 ≤ length (now buffer)) ⌝ }
-    ensures { λ r. ⌜ Written (printedName (now (names .entry)) p) (now (buffer .entry)) (now (buffer .exit)) r ⌝ }
-{
-    match p {
-        Plan::Stop(_) => 0,
-        Plan::Open(_) => 0,
-        Plan::Enter(_, _) => 0,
-        Plan::Change(_) => 0,
-        Plan::Level(_) => 0,
-        Plan::Step(_) => 0,
-        Plan::Print(t) => plaintrade::write_name(buffer, names, t.place, t.temporary),
-        Plan::Cancel(t) => plaintrade::write_name(buffer, names, t.place, false),
-        Plan::Correct(c) => plaintrade::write_name(buffer, names, c.place, false),
-    }
-}
-
-// ---- the print: its length, whether it fits, its writer
-
-fn print_length(name: &[u8], t: TradePlan) -> usize
-    requires { ⌜ SoundPrint t ⌝ }
-    ensures { λ r. ⌜ r ≡ length (printText (now (name .entry)) t) ⌝ }
-{
-    let side = t.side;
-    if t.prints {
-        return trade::side_length(name, t.network, t.unit, t.full, t.shows, side);
-    }
-    0
-}
-
-fn cancel_length(name: &[u8], t: CancelPlan) -> usize
-    requires { ⌜ SoundCancel t ⌝ }
-    ensures { λ r. ⌜ r ≡ length (cancelled (now (name .entry)) t) ⌝ }
-{
-    let side = t.side;
-    amendment::cancel_length(t.error, name, t.network, t.unit, t.full, t.shows, side)
-}
-
-fn correction_length(name: &[u8], c: CorrectionPlan) -> usize
-    requires { ⌜ SoundCorrect c × (length (now name) ≤ 22) ⌝ }
-    ensures { λ r. ⌜ r ≡ length (corrected (now (name .entry)) c) ⌝ }
-{
-    let x = c.original;
-    let y = c.correcting;
-    if c.prints {
-        return amendment::correction_length(name, c.network, c.unit, c.full, c.shows, x, y);
-    }
-    0
-}
-
-fn text_length(st: Settings, name: &[u8], line: &[u8], p: Plan) -> usize
-    requires { ⌜ SoundPlan (now line) p × (length (now name) ≤ 22) ⌝ }
-    ensures { λ r. ⌜ r ≡ length (textOf st (now (name .entry)) p) ⌝ }
-{
-    let mode = st.mode;
-    match p {
-        Plan::Stop(_) => 0,
-        Plan::Open(_) => 0,
-        Plan::Enter(_, _) => 0,
-        Plan::Change(m) => announcement::mode_length(m, st.minimum),
-        Plan::Level(n) => announcement::level_length(n),
-        Plan::Step(n) => announcement::step_length(mode, n),
-        Plan::Print(t) => print_length(name, t),
-        Plan::Cancel(t) => cancel_length(name, t),
-        Plan::Correct(c) => correction_length(name, c),
-    }
-}
-
-// 13: the lent tape is shorter than the print.
-fn fitted(st: Settings, name: &[u8], line: &[u8], p: Plan, room: usize) -> Plan
-    requires { ⌜ SoundPlan (now line) p × (length (now name) ≤ 22) ⌝ }
-    ensures { λ r. ⌜ r ≡ fittedOf st (now (name .entry)) p room ⌝ }
-{
-    if room < text_length(st, name, line, p) {
-        return Plan::Stop(Refusal::Room);
-    }
-    p
-}
-
-fn write_print(rest: &mut [u8], name: &[u8], t: TradePlan) -> usize
-    requires { ⌜ SoundPrint t × (length (printText (now name) t) ≤ length (now rest)) ⌝ }
-    ensures { λ r. ⌜ Written (printText (now (name .entry)) t) (now (rest .entry)) (now (rest .exit)) r ⌝ }
-{
-    let side = t.side;
-    if t.prints {
-        return trade::write_side(rest, name, t.network, t.unit, t.full, t.shows, side);
-    }
-    0
-}
-
-fn write_cancel(rest: &mut [u8], name: &[u8], t: CancelPlan) -> usize
-    requires { ⌜ SoundCancel t × (length (cancelled (now name) t) ≤ length (now rest)) ⌝ }
-    ensures { λ r. ⌜ Written (cancelled (now (name .entry)) t) (now (rest .entry)) (now (rest .exit)) r ⌝ }
-{
-    let side = t.side;
-    amendment::write_cancel(
-        rest,
-        t.error,
-        name,
-        t.network,
-        t.unit,
-        t.full,
-        t.shows,
-        side,
-    )
-}
-
-fn write_correction(rest: &mut [u8], name: &[u8], c: CorrectionPlan) -> usize
-    requires { ⌜ SoundCorrect c × (length (corrected (now name) c) ≤ length (now rest)) ⌝ }
-    ensures { λ r. ⌜ Written (corrected (now (name .entry)) c) (now (rest .entry)) (now (rest .exit)) r ⌝ }
-{
-    let x = c.original;
-    let y = c.correcting;
-    if c.prints {
-        return amendment::write_correction(rest, name, c.network, c.unit, c.full, c.shows, x, y);
-    }
-    0
-}
-
-fn write_text(rest: &mut [u8], st: Settings, name: &[u8], line: &[u8], p: Plan) -> usize
-    requires { ⌜ SoundPlan (now line) p × (length (textOf st (now name) p) ≤ length (now rest)) ⌝ }
-    ensures { λ r. ⌜ Written (textOf st (now (name .entry)) p) (now (rest .entry)) (now (rest .exit)) r ⌝ }
-{
-    let mode = st.mode;
-    match p {
-        Plan::Stop(_) => 0,
-        Plan::Open(_) => 0,
-        Plan::Enter(_, _) => 0,
-        Plan::Change(m) => announcement::write_mode(rest, m, st.minimum),
-        Plan::Level(n) => announcement::write_level(rest, n),
-        Plan::Step(n) => announcement::write_step(rest, mode, n),
-        Plan::Print(t) => write_print(rest, name, t),
-        Plan::Cancel(t) => write_cancel(rest, name, t),
-        Plan::Correct(c) => write_correction(rest, name, c),
-    }
-}
-
-// ---- the state after
-
-fn opened_on(date: u64) -> Settings
-    ensures { λ r. ⌜ r ≡ opened date ⌝ }
-{
-    Settings {
-        date: date,
-        mode: Mode::Normal,
-        level: 5000,
-        minimum: 1,
-    }
-}
-
-fn settings_after(st: Settings, p: Plan) -> Settings
-    ensures { λ r. ⌜ r ≡ settingsAfter st p ⌝ }
-{
-    let mode = st.mode;
-    match p {
-        Plan::Stop(_) => st,
-        Plan::Open(n) => opened_on(n),
-        Plan::Enter(_, _) => st,
-        Plan::Change(m) => Settings {
-            date: st.date,
-            mode: m,
-            level: st.level,
-            minimum: st.minimum,
-        },
-        Plan::Level(n) => Settings {
-            date: st.date,
-            mode: mode,
-            level: n,
-            minimum: st.minimum,
-        },
-        Plan::Step(n) => Settings {
-            date: st.date,
-            mode: mode,
-            level: st.level,
-            minimum: n,
-        },
-        Plan::Print(_) => st,
-        Plan::Cancel(_) => st,
-        Plan::Correct(_) => st,
-    }
-}
-
-fn update_table(table: &mut [u64; 5632], line: &[u8], p: Plan)
-    requires { ⌜ SoundPlan (now line) p ⌝ }
-    ensures { λ _. ⌜ now (table .exit) ≡ tableAfter (now (table .entry)) p ⌝ }
-{
-    match p {
-        Plan::Stop(_) => {}
-        Plan::Open(_) => table::clear(table),
-        Plan::Enter(i, s) => table::store(table, i, s),
-        Plan::Change(_) => {}
-        Plan::Level(_) => {}
-        Plan::Step(_) => {}
-        Plan::Print(t) => table::store(table, t.place, t.after),
-        Plan::Cancel(_) => {}
-        Plan::Correct(c) => table::store(table, c.place, c.after),
-    }
-}
-
-fn update_names(names: &mut [u8; 9728], line: &[u8], p: Plan)
-    requires { ⌜ SoundPlan (now line) p ⌝ }
-    ensures { λ _. ⌜ now (names .exit) ≡ namesAfter (now (names .entry)) (now (line .entry)) p ⌝ }
-{
-    match p {
-        Plan::Stop(_) => {}
-        Plan::Open(_) => table::clear_names(names),
-        Plan::Enter(i, _) => table::store_name(names, i, &line[5..24]),
-        Plan::Change(_) => {}
-        Plan::Level(_) => {}
-        Plan::Step(_) => {}
-        Plan::Print(_) => {}
-        Plan::Cancel(_) => {}
-        Plan::Correct(_) => {}
-    }
 }
 
 fn outcome_of(p: Plan, n: usize) -> Outcome
@@ -275,7 +55,7 @@ fn outcome_of(p: Plan, n: usize) -> Outcome
 pub fn fresh() -> Settings
     ensures { λ r. ⌜ r ≡ opened 0 ⌝ }
 {
-    opened_on(0)
+    planstate::opened_on(0)
 }
 
 // What a call asks for that is lent a tape of `room` bytes: its plan, or the refusal that stops it, 13 too.
@@ -290,8 +70,8 @@ pub fn ask_line(
 {
     let p = planner::plan_line(st, table, names, line);
     let mut buffer = [0u8; 22];
-    let n = write_printed_name(&mut buffer, names, line, p);
-    fitted(st, &buffer[..n], line, p, room)
+    let n = planprint::write_printed_name(&mut buffer, names, line, p);
+    planprint::fitted(st, &buffer[..n], line, p, room)
 }
 
 // A plain trade whose security is entered; the security is 0 where the line is none.
@@ -348,7 +128,7 @@ fn take_print(table: &mut [u64; 5632], names: &[u8; 9728], t: TradePlan, tape: &
     let after = t.after;
     let n = plaintrade::write_name(&mut buffer, names, place, t.temporary);
     table::store(table, place, after);
-    write_print(tape, &buffer[..n], t)
+    planprint::write_print(tape, &buffer[..n], t)
 }
 
 // A trade in its form and within its values: refusals 6, 10 and 11, or its print.
@@ -416,14 +196,14 @@ fn take_other(
 {
     let asked = planner::plan_line(st, table, names, line);
     let mut buffer = [0u8; 22];
-    let n = write_printed_name(&mut buffer, names, line, asked);
-    let p = fitted(st, &buffer[..n], line, asked, tape.len());
-    let k = write_text(tape, st, &buffer[..n], line, p);
-    update_table(table, line, p);
-    update_names(names, line, p);
+    let n = planprint::write_printed_name(&mut buffer, names, line, asked);
+    let p = planprint::fitted(st, &buffer[..n], line, asked, tape.len());
+    let k = planprint::write_text(tape, st, &buffer[..n], line, p);
+    planstate::update_table(table, line, p);
+    planstate::update_names(names, line, p);
     Answer {
         outcome: outcome_of(p, k),
-        settings: settings_after(st, p),
+        settings: planstate::settings_after(st, p),
     }
 }
 

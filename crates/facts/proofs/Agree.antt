@@ -40,7 +40,8 @@ use Rattle.planner.specs.declared.Plan.the-variants.{Stop, Open, Enter, Change,
 use Rattle.planner.specs.Plan as planner
 use Rattle.planner.specs.Plan.{datePlan, listingPlan, unlessStopped, printPlan, tradePlan, cancelOf, cancelPlan, correctionOf, correctionPlan, linePlan, readPlan, planOf, SoundLine}
 use Rattle.planner.proofs.Ranged.{sound-line}
-use Rattle.engine.specs.Taken.{printedName, textOf, fittedOf, asked, printOf}
+use Rattle.planprint.specs.Print.{printedName, textOf, fittedOf, printOf}
+use Rattle.engine.specs.Taken.{asked}
 use Rattle.calls.specs.Held.{stopOf}
 use Rattle.calls.proofs.Agree.{by-rules}
 use Rattle.facts.specs.Entry.{factIn, showsShares, volumeOf, planFact, SoundSide, SoundTrade, SoundCancel, SoundCorrection, SoundFact}

@@ -29,7 +29,7 @@ use Rattle.planner.specs.declared.CancelPlan.{CancelPlan}
 use Rattle.planner.specs.declared.CorrectionPlan.{CorrectionPlan}
 use Rattle.planner.specs.declared.Plan.{Plan}
 use Rattle.planner.specs.declared.Plan.the-variants.{Stop, Open, Enter, Change, Level, Step, Print, Cancel, Correct}
-use Rattle.engine.specs.Taken.{printedName, textOf, printOf}
+use Rattle.planprint.specs.Print.{printedName, textOf, printOf}
 use Rattle.facts.specs.Entry.{conditionsIn, partIn, volumeIn, factIn, showsShares, volumeOf, planFact, SoundTrade, SoundCancel, SoundCorrection, SoundFact}
 use Rattle.facts.specs.declared.Conditions.{Conditions}
 use Rattle.facts.specs.declared.Part.{Part}

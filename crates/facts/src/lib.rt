@@ -18,7 +18,7 @@ ghost use Rattle.rules.specs.Shown.{shownLetters, conditionsOf, partOf, announc
 ghost use Rattle.prices.specs.Sound.{Sound};
 ghost use Rattle.table.specs.Rows.{nameOf, dayOf};
 ghost use Rattle.planner.specs.declared.Plan.the-variants.{Print, Cancel, Correct};
-ghost use Rattle.engine.specs.Taken.{printOf};
+ghost use Rattle.planprint.specs.Print.{printOf};
 ghost use Rattle.facts.specs.Entry.{conditionsIn, partIn, volumeIn, factIn, showsShares, volumeOf, planFact, SoundSide, SoundTrade, SoundCancel, SoundCorrection, SoundFact};
 
 // The conditions of a side as they are shown: N as M, C as K; days and previous last 0 for none. Prices are in units of ten

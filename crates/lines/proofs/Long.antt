@@ -14,7 +14,9 @@ use Rattle.rules.specs.declared.Settings.{Settings}
 use Rattle.planner.specs.declared.Plan.{Plan}
 use Rattle.planner.specs.declared.Plan.the-variants.{Stop}
 use Rattle.planner.specs.Plan.{planOf}
-use Rattle.engine.specs.Taken.{textOf, fittedOf, asked, printOf, settingsAfter, tableAfter, namesAfter, outcomeOf}
+use Rattle.planprint.specs.Print.{textOf, fittedOf, printOf}
+use Rattle.engine.specs.Taken.{asked, outcomeOf}
+use Rattle.planstate.specs.After.{settingsAfter, tableAfter, namesAfter}
 use Rattle.lines.specs.Feed.{Progress, carried, lineTaken}
 
 unshaped : (line : List ℕ) → (length line ≡ 100 → ⊥) → isShaped line ≡ false

@@ -19,7 +19,9 @@ use Rattle.planner.specs.declared.Plan.the-variants.{Stop, Open, Enter, Change,
 use Rattle.planner.specs.Plan.{planOf}
 use Rattle.engine.specs.declared.Outcome.{Outcome}
 use Rattle.engine.specs.declared.Answer.{Answer}
-use Rattle.engine.specs.Taken.{printedName, textOf, fittedOf, asked, printOf, settingsAfter, tableAfter, namesAfter, outcomeOf, Taken}
+use Rattle.planprint.specs.Print.{printedName, textOf, fittedOf, printOf}
+use Rattle.engine.specs.Taken.{asked, outcomeOf, Taken}
+use Rattle.planstate.specs.After.{settingsAfter, tableAfter, namesAfter}
 use Rattle.lines.specs.Feed.{Progress, printed, told, carried, lineTaken, Stands, Steps}
 use Rattle.lines.specs.declared.Fed.{Fed}
 

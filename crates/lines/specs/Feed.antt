@@ -11,7 +11,9 @@ use Rattle.rules.specs.declared.Settings.{Settings}
 use Rattle.planner.specs.declared.Plan.{Plan}
 use Rattle.engine.specs.declared.Outcome.{Outcome}
 use Rattle.engine.specs.declared.Outcome.the-variants.{Accepted, Refused}
-use Rattle.engine.specs.Taken.{asked, printOf, settingsAfter, tableAfter, namesAfter, outcomeOf}
+use Rattle.engine.specs.Taken.{asked, outcomeOf}
+use Rattle.planprint.specs.Print.{printOf}
+use Rattle.planstate.specs.After.{settingsAfter, tableAfter, namesAfter}
 use Rattle.lines.specs.Lines.{cut}
 use Rattle.lines.specs.Refusals.{refusalLine}
 use Rattle.lines.specs.declared.Fed.{Fed}

@@ -4,7 +4,8 @@ use mathlib.Core.Bool.{Bool, true, false}
 use mathlib.Core.List.{List, [], _∷_, _++_}
 use lib.ListN.{length}
 use Rattle.planner.specs.declared.Plan.{Plan}
-use Rattle.engine.specs.Taken.{asked, printOf, outcomeOf}
+use Rattle.engine.specs.Taken.{asked, outcomeOf}
+use Rattle.planprint.specs.Print.{printOf}
 use Rattle.lines.specs.Feed.{Progress, told, lineTaken, roomLeft}
 
 -- the lines that are handed over before the room or the numbers end

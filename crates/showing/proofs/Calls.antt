@@ -15,7 +15,8 @@ use Rattle.table.specs.Rows.{dayOf}
 use Rattle.engine.specs.declared.Outcome.{Outcome}
 use Rattle.engine.specs.declared.Outcome.the-variants.{Accepted, Refused}
 use Rattle.engine.specs.declared.Answer.{Answer}
-use Rattle.engine.specs.Taken.{asked, printOf, Taken}
+use Rattle.engine.specs.Taken.{asked, Taken}
+use Rattle.planprint.specs.Print.{printOf}
 use Rattle.calls.specs.Run.{State, Lent, countOf}
 use Rattle.calls.proofs.Runs.{count-is, link-held}
 use Rattle.facts.specs.Entry.{factIn}

@@ -10,7 +10,9 @@ use Rattle.table.specs.Rows.{dayOf}
 use Rattle.table.proofs.Held.{held-cleared}
 use Rattle.planner.specs.declared.Plan.{Plan}
 use Rattle.planner.specs.declared.Plan.the-variants.{Stop, Open, Enter, Change, Level, Step, Print, Cancel, Correct}
-use Rattle.engine.specs.Taken.{asked, printOf, settingsAfter, tableAfter, namesAfter}
+use Rattle.engine.specs.Taken.{asked}
+use Rattle.planprint.specs.Print.{printOf}
+use Rattle.planstate.specs.After.{settingsAfter, tableAfter, namesAfter}
 use Rattle.calls.specs.Held.{dayAfter}
 use Rattle.calls.proofs.Agree.{by-rules}
 use Rattle.calls.proofs.Early.{Early, early-asked, same-asked}

@@ -1,4 +1,4 @@
-use Rattle.engine.proofs.Sound.{sound-asked}
+use Rattle.planprint.proofs.Sound.{sound-asked}
 use Rattle.engine.proofs.Steps.{front-length, front-short, asked-for}
 use borrow.Author.Needs.{needs}
 use Rattle.engine.proofs.ask_line.Statement.{statement}

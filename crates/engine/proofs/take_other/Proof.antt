@@ -1,5 +1,6 @@
-use Rattle.engine.proofs.Sound.{sound-asked}
-use Rattle.engine.proofs.Steps.{front-length, front-short, fitted-sound, fitted-room, taken}
+use Rattle.planprint.proofs.Sound.{sound-asked}
+use Rattle.engine.proofs.Steps.{front-length, front-short, taken}
+use Rattle.planprint.proofs.Room.{fitted-sound, fitted-room}
 use borrow.Author.Needs.{needs}
 use Rattle.engine.proofs.take_other.Statement.{statement}
 use Rattle.engine.proofs.take_other.Tie as tie

@@ -1,0 +1,101 @@
+-- What the plan of any line owes: a place in the tables, a unit, few decimals. Assumes nothing.
+use Prim.Native.Nat.{ℕ, zero, suc, _-_, _≤_, _<_}
+use native.Mathlib.Omega.{arith}
+use mathlib.Core.Path.{_≡_, refl, sym, ap, _∙_}
+use mathlib.Core.Bool.{Bool, true, false, _&&_, not}
+use mathlib.Core.List.{List, []}
+use lib.Dec.{eqb}
+use lib.ListN.{length}
+use borrow.Author.Tests.{eqb-false, not-true, not-false}
+use Rattle.text.specs.Pick.{pick}
+use Rattle.rules.specs.Columns.{column}
+use Rattle.rules.specs.Line.{isShaped, isRanged, lineOf, nameColumns, ofKind}
+use Rattle.rules.specs.Day.{isEntered}
+use Rattle.rules.specs.declared.Listing.{Listing}
+use Rattle.rules.specs.declared.Trade.{Trade}
+use Rattle.rules.specs.declared.Correction.{Correction}
+use Rattle.rules.specs.declared.Line.{Line}
+use Rattle.rules.specs.declared.Line.the-variants.{Dated, Listed, Moded, Leveled, Stepped, Traded, Cancelled, Erred, Corrected}
+use Rattle.rules.specs.declared.Settings.{Settings}
+use Rattle.rules.specs.declared.Security.{Security}
+use Rattle.planner.specs.declared.Plan.{Plan}
+use Rattle.planner.specs.declared.Plan.the-variants.{Stop, Open, Enter, Change, Level, Step, Print, Cancel, Correct}
+use Rattle.planner.specs.Plan.{datePlan, listingPlan, unlessStopped, printPlan, tradePlan, cancelOf, cancelPlan, correctionOf, correctionPlan, linePlan, readPlan, planOf, SoundListing, SoundTrade, SoundCorrection, SoundLine}
+use Rattle.planner.proofs.Ranged.{sound-line, shaped}
+use Rattle.planprint.specs.Print.{SoundPrint, SoundCancel, SoundCorrect, SoundPlan}
+
+either : (line : List ℕ) (b : Bool) (p q : Plan) → SoundPlan line p → (b ≡ false → SoundPlan line q) → SoundPlan line (pick b p q)
+unfolding pick
+either line true p q h k = h
+either line false p q h k = k refl
+
+pub has-unit : (s : Security) → not (isEntered s) ≡ false → 1 ≤ s .unit
+unfolding isEntered
+has-unit s h = let z = eqb-false (s .unit) 0 (not-true (eqb (s .unit) 0) (not-false (not (eqb (s .unit) 0)) h)) in some (s .unit) z
+  where
+    some : (n : ℕ) → (n ≡ 0 → ⊥) → 1 ≤ n
+    some zero z = absurd (z refl)
+    some (suc n) z = omega arith
+
+module _ (st : Settings) (table names line : List ℕ) where
+  date-sound : (n : ℕ) → SoundPlan line (datePlan st n)
+  unfolding datePlan SoundPlan
+  date-sound n = either line _ _ _ tt (λ e. tt)
+
+  listing-sound : (name : List ℕ) (l : Listing) → SoundListing l → length line ≡ 100 → SoundPlan line (listingPlan table names name l)
+  unfolding listingPlan SoundPlan
+  listing-sound name l h k =
+      either line _ _ _ tt (λ e.
+      either line _ _ _ tt (λ f.
+      either line _ _ _ tt (λ g. (omega (arith, h .low, h .high), k))))
+
+  stops-sound : (s : Security) (t : Trade) (p : Plan) → (1 ≤ s .unit → SoundPlan line p) → SoundPlan line (unlessStopped s t p)
+  unfolding unlessStopped SoundPlan
+  stops-sound s t p h =
+      either line _ _ _ tt (λ e.
+      either line _ _ _ tt (λ f.
+      either line _ _ _ tt (λ g. h (has-unit s e))))
+
+  trade-sound : (s : Security) (t : Trade) → SoundTrade t → SoundPlan line (tradePlan st s t)
+  unfolding tradePlan printPlan SoundPlan
+  trade-sound s t h = stops-sound s t _ (λ u. record { place-is = omega (arith, h .low, h .high); unit-is = u; price-is = h .price .decimals; previous-is = h .previous })
+
+  cancel-sound : (error : Bool) (s : Security) (t : Trade) → SoundTrade t → SoundPlan line (cancelPlan error st s t)
+  unfolding cancelPlan cancelOf SoundPlan
+  cancel-sound error s t h = stops-sound s t _ (λ u. record { place-is = omega (arith, h .low, h .high); unit-is = u; price-is = h .price .decimals; previous-is = h .previous })
+
+  correction-sound : (s : Security) (c : Correction) → SoundCorrection c → SoundPlan line (correctionPlan st s c)
+  unfolding correctionPlan correctionOf SoundPlan
+  correction-sound s c h =
+      either line _ _ _ tt (λ e.
+      either line _ _ _ tt (λ f.
+      either line _ _ _ tt (λ g. record { place-is = omega (arith, h .low, h .high); unit-is = has-unit s e; original-is = h .original .decimals; original-previous = h .original-previous; correcting-is = h .correcting .decimals; correcting-previous = h .correcting-previous })))
+
+  line-sound : (name : List ℕ) (l : Line) → SoundLine l → length line ≡ 100 → SoundPlan line (linePlan st table names name l)
+  unfolding linePlan SoundLine SoundPlan
+  line-sound name (Dated n) h k = date-sound n
+  line-sound name (Listed l) h k = listing-sound name l h k
+  line-sound name (Moded m) h k = tt
+  line-sound name (Leveled n) h k = tt
+  line-sound name (Stepped n) h k = tt
+  line-sound name (Traded t) h k = trade-sound _ t h
+  line-sound name (Cancelled t) h k = cancel-sound false _ t h
+  line-sound name (Erred t) h k = cancel-sound true _ t h
+  line-sound name (Corrected c) h k = correction-sound _ c h
+
+  read-sound : length line ≡ 100 → SoundPlan line (readPlan st table names line)
+  unfolding readPlan SoundPlan isRanged lineOf
+  read-sound k =
+      either line _ _ _ tt (λ e.
+      either line _ _ _ tt (λ f.
+      line-sound (nameColumns line) (lineOf line) (sound-line line (ofKind (column 1 line) line) refl f) k))
+
+  plan-sound : SoundPlan line (planOf st table names line)
+  unfolding planOf SoundPlan
+  plan-sound =
+      either line _ _ _ tt (λ e.
+      either line _ _ _ tt (λ f.
+      either line _ _ _ tt (λ g. read-sound (shaped line (isShaped line) refl e))))
+
+  pub sound-asked : (p : Plan) → p ≡ planOf st table names line → SoundPlan line p
+  sound-asked p e = rw e plan-sound

@@ -1,0 +1,17 @@
+use Rattle.text.proofs.Writing.{length-named}
+use Rattle.planprint.proofs.Room.{prints}
+use borrow.Author.Needs.{needs}
+use Rattle.planprint.proofs.print_length.Statement.{statement}
+use Rattle.planprint.proofs.print_length.Tie as tie
+
+side-length-requires : tie.Need-side-length-requires
+side-length-requires c κs = search needs
+
+returns : tie.Need-returns
+returns c = search (length-named, prints)
+
+returns-2 : tie.Need-returns-2
+returns-2 c = search (length-named, prints)
+
+pub print-length-spec : {M : Type 1} → statement M
+print-length-spec = tie.close (tie.spec side-length-requires returns returns-2)

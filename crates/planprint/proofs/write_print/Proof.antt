@@ -1,0 +1,20 @@
+use Rattle.text.proofs.Writing.{named, fits, written-nothing}
+use Rattle.planprint.proofs.Room.{prints}
+use borrow.Author.Needs.{needs}
+use Rattle.planprint.proofs.write_print.Statement.{statement}
+use Rattle.planprint.proofs.write_print.Tie as tie
+
+write-side-requires : tie.Need-write-side-requires
+write-side-requires c κs = search (fits, prints)
+
+same-length : tie.Need-same-length
+same-length c = search needs
+
+returns : tie.Need-returns
+returns c = search (named, prints, written-nothing)
+
+returns-2 : tie.Need-returns-2
+returns-2 c = search (named, prints, written-nothing)
+
+pub write-print-spec : {M : Type 1} → statement M
+write-print-spec = tie.close (tie.spec write-side-requires same-length returns returns-2)
