@@ -15,7 +15,7 @@ use Rattle.rules.specs.Columns.{between}
 use Rattle.rules.specs.Announcement.{minimumText, modeText, levelText}
 use Rattle.rules.specs.declared.Mode.{Mode}
 use Rattle.rules.specs.declared.Mode.the-variants.{Normal, Dvd, Rpo, Mpv}
-use Rattle.suffix.proofs.Fields.{front-length}
+use Rattle.words.proofs.Fields.{front-length}
 use Rattle.announced.specs.Announced.{Announced, mode, level, minimumIn, levelIn, lengthAt, minimumBy, minimumAt, levelBy, levelAt, announcedIn, announcedLength}
 
 -- what stands at the front

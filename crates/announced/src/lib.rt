@@ -44,7 +44,7 @@ fn minimum_text_at(minimum: u64, s: &[u8]) -> usize
     let mut buffer = [0u8; 64];
     let n = announcement::minimum_length(minimum);
     announcement::write_minimum(&mut buffer, minimum);
-    if suffix::begins(&buffer[..n], s) {
+    if words::begins(&buffer[..n], s) {
         return n;
     }
     0
@@ -78,7 +78,7 @@ fn level_text_at(level: u64, s: &[u8]) -> usize
     let mut buffer = [0u8; 64];
     let n = announcement::level_length(level);
     announcement::write_level(&mut buffer, level);
-    if suffix::begins(&buffer[..n], s) {
+    if words::begins(&buffer[..n], s) {
         return n;
     }
     0
@@ -115,16 +115,16 @@ fn announced_in(s: &[u8]) -> usize
     let dvd = announcement::DVD;
     let rpo = announcement::RPO;
     let minimum = announcement::MINIMUM;
-    if suffix::begins(&normal, s) {
+    if words::begins(&normal, s) {
         return 23;
     }
-    if suffix::begins(&dvd, s) {
+    if words::begins(&dvd, s) {
         return 40;
     }
-    if suffix::begins(&rpo, s) {
+    if words::begins(&rpo, s) {
         return 38;
     }
-    if suffix::begins(&minimum, s) {
+    if words::begins(&minimum, s) {
         return minimum_at(s);
     }
     level_at(s)
@@ -134,7 +134,7 @@ fn announced_in(s: &[u8]) -> usize
 pub fn announcement_at(s: &[u8]) -> usize
     ensures { λ r. ⌜ r ≡ announcedLength (now (s .entry)) ⌝ }
 {
-    if suffix::begins(b"<<<", s) {
+    if words::begins(b"<<<", s) {
         return announced_in(s);
     }
     0

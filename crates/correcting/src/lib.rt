@@ -37,7 +37,7 @@ fn differs_at_level(st: Settings, x: Side, y: Side) -> bool
     if !prices_differ(x, y) {
         return false;
     }
-    decision::at_level(st, y.volume)
+    comparing::at_level(st, y.volume)
 }
 
 // In DVD.
@@ -107,7 +107,7 @@ fn moves_price(s: Security, y: Side) -> bool
     requires { ⌜ Sound (y .price) ⌝ }
     ensures { λ r. ⌜ r ≡ (newRange s y || (forLast (y .letters) && unlikeLast s (units (y .price)))) ⌝ }
 {
-    if decision::new_range(s, y) {
+    if comparing::new_range(s, y) {
         return true;
     }
     moves_last(s, y)
@@ -121,10 +121,10 @@ fn prints_in_both(st: Settings, s: Security, x: Side, y: Side) -> bool
     if s.unit == 1 {
         return true;
     }
-    if decision::at_level(st, x.volume) {
+    if comparing::at_level(st, x.volume) {
         return true;
     }
-    if decision::at_level(st, y.volume) {
+    if comparing::at_level(st, y.volume) {
         return true;
     }
     if seller_differs(x, y) {
@@ -196,7 +196,7 @@ fn is_mpv(m: Mode) -> bool
 fn full_at(whole: u64) -> bool
     ensures { λ r. ⌜ r ≡ (endsInZero whole || leb 1000 whole) ⌝ }
 {
-    if decision::ends_in_zero(whole) {
+    if comparing::ends_in_zero(whole) {
         return true;
     }
     1000 <= whole
@@ -257,7 +257,7 @@ fn shows_volumes(st: Settings, x: Side, y: Side) -> bool
     ensures { λ r. ⌜ r ≡ showsVolumes st x y ⌝ }
 {
     let volume = y.volume;
-    if decision::at_level(st, volume) {
+    if comparing::at_level(st, volume) {
         return true;
     }
     either_rule(x, y)
@@ -269,7 +269,7 @@ pub fn correction_full(st: Settings, s: Security, x: Side, y: Side) -> bool
     ensures { λ r. ⌜ r ≡ correctionFull st s x y ⌝ }
 {
     let mode = st.mode;
-    if decision::is_normal(mode) {
+    if comparing::is_normal(mode) {
         return true;
     }
     full_prices(st, s, x, y)
@@ -280,7 +280,7 @@ pub fn correction_shows(st: Settings, x: Side, y: Side) -> bool
     ensures { λ r. ⌜ r ≡ correctionShows st x y ⌝ }
 {
     let mode = st.mode;
-    if decision::is_normal(mode) {
+    if comparing::is_normal(mode) {
         return true;
     }
     shows_volumes(st, x, y)
@@ -292,7 +292,7 @@ pub fn cancel_full(st: Settings, s: Security, x: Side) -> bool
     ensures { λ r. ⌜ r ≡ cancelFull st s x ⌝ }
 {
     let mode = st.mode;
-    if decision::is_normal(mode) {
+    if comparing::is_normal(mode) {
         return true;
     }
     if s.unit == 1 {
@@ -308,10 +308,10 @@ pub fn cancel_shows(st: Settings, x: Side) -> bool
     let mode = st.mode;
     let letters = x.letters;
     let volume = x.volume;
-    if decision::is_normal(mode) {
+    if comparing::is_normal(mode) {
         return true;
     }
-    if decision::at_level(st, volume) {
+    if comparing::at_level(st, volume) {
         return true;
     }
     qualifying::has_rule(letters)

@@ -57,9 +57,9 @@ fn read_letters(part: &[u8]) -> LettersRead
     ensures { λ r. ⌜ r ≡ lettersRead (now (part .entry)) ⌝ }
 {
     LettersRead {
-        formed: field::letters_formed(part),
-        letters: field::letters_in(part),
-        lawful: field::lawful_letters(part),
+        formed: lettering::letters_formed(part),
+        letters: lettering::letters_in(part),
+        lawful: lettering::lawful_letters(part),
     }
 }
 

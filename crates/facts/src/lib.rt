@@ -126,7 +126,7 @@ fn shows_shares(st: Settings, t: TradePlan) -> bool
 {
     let mode = st.mode;
     let side = t.side;
-    if decision::is_normal(mode) {
+    if comparing::is_normal(mode) {
         return true;
     }
     if !t.shows {
@@ -186,7 +186,7 @@ fn cancel_entry(st: Settings, names: &[u8; 9728], t: CancelPlan) -> Entry
 {
     let mode = st.mode;
     let side = t.side;
-    let normal = decision::is_normal(mode);
+    let normal = comparing::is_normal(mode);
     let security = (t.place + 1) as u64;
     let part = part_of(normal, side);
     if t.error {
@@ -205,7 +205,7 @@ fn correction_entry(st: Settings, names: &[u8; 9728], c: CorrectionPlan) -> Entr
     let mode = st.mode;
     let original = c.original;
     let correcting = c.correcting;
-    let normal = decision::is_normal(mode);
+    let normal = comparing::is_normal(mode);
     let security = (c.place + 1) as u64;
     let was = part_of(normal, original);
     let is = part_of(normal, correcting);

@@ -10,7 +10,7 @@ use lib.Seq.{drop-cons, length-take-le}
 use borrow.Author.Tests.{not-true, not-false}
 use Rattle.text.specs.Pick.{pick}
 use Rattle.named.specs.Cut.{isAfter}
-use Rattle.suffix.proofs.Fields.{rest-is}
+use Rattle.words.proofs.Fields.{rest-is}
 use Rattle.heading.specs.Name.{countOf}
 use Rattle.heading.specs.Head.{nameCount}
 

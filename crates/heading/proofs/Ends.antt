@@ -14,7 +14,7 @@ use Rattle.text.specs.Reading.{heads}
 use Rattle.text.proofs.Texts.{and-left}
 use Rattle.rules.specs.Tape.{isLetter, isRaised}
 use Rattle.rules.specs.Names.{isSuffix}
-use Rattle.suffix.proofs.Fields.{rest-is}
+use Rattle.words.proofs.Fields.{rest-is}
 use Rattle.heading.specs.Name.{countOf, endsIn, suffixText, lawfulRoot, endsLawfully, appendageOf, nameOn}
 
 -- ---- a text at the end

@@ -12,7 +12,7 @@ use Rattle.text.specs.Pick.{pick}
 use Rattle.text.specs.Reading.{starts}
 use Rattle.named.specs.Cut.{isAfter}
 use Rattle.rules.specs.Tape.{isUpper}
-use Rattle.suffix.proofs.Fields.{rest-is, front-length}
+use Rattle.words.proofs.Fields.{rest-is, front-length}
 use Rattle.rules.specs.declared.Letters.{Letters}
 use Rattle.heading.specs.Name.{countOf, nameOn}
 use Rattle.heading.specs.Head.{soldIn, afterIn, nameCount, namedBy, inRun, headAt, againBy, againIn, againAt}

@@ -50,10 +50,10 @@ pub enum AgainAnswer {
 fn is_upper(b: u8) -> bool
     ensures { λ r. ⌜ r ≡ isUpper b ⌝ }
 {
-    if suffix::is_letter(b) {
+    if words::is_letter(b) {
         return true;
     }
-    suffix::is_among(b, b"&.prw")
+    words::is_among(b, b"&.prw")
 }
 
 // The bytes of the upper row at the front, at most 35.
@@ -82,7 +82,7 @@ fn letter_count(s: &[u8]) -> usize
         if s.len() <= i {
             return i;
         }
-        if !suffix::is_letter(s[i]) {
+        if !words::is_letter(s[i]) {
             return i;
         }
         i += 1;
@@ -109,7 +109,7 @@ fn heads_raised(s: &[u8]) -> bool
     if s.len() == 0 {
         return false;
     }
-    suffix::is_among(s[0], b"prw")
+    words::is_among(s[0], b"prw")
 }
 
 // A suffix behind a letter dot: one that does not begin with a raised letter.
@@ -267,7 +267,7 @@ fn sold_in(m: bool, s: &[u8]) -> AfterAnswer
 fn after_in(s: &[u8]) -> AfterAnswer
     ensures { λ r. ⌜ r ≡ afterIn (now (s .entry)) ⌝ }
 {
-    if suffix::begins(b".ND", s) {
+    if words::begins(b".ND", s) {
         return sold_in(true, &s[3..]);
     }
     sold_in(false, s)
@@ -276,13 +276,13 @@ fn after_in(s: &[u8]) -> AfterAnswer
 fn begins_condition(s: &[u8]) -> bool
     ensures { λ r. ⌜ r ≡ (starts (bytes "ND") (now (s .entry)) || (starts (bytes "OPD") (now (s .entry)) || starts (bytes "SLD") (now (s .entry)))) ⌝ }
 {
-    if suffix::begins(b"ND", s) {
+    if words::begins(b"ND", s) {
         return true;
     }
-    if suffix::begins(b"OPD", s) {
+    if words::begins(b"OPD", s) {
         return true;
     }
-    suffix::begins(b"SLD", s)
+    words::begins(b"SLD", s)
 }
 
 // A condition begins here.
@@ -377,7 +377,7 @@ fn again_in(name: &[u8], run: &[u8]) -> AgainAnswer
     if run.len() == 0 {
         return again_by(0, after_in(run));
     }
-    if !suffix::begins(name, run) {
+    if !words::begins(name, run) {
         return AgainAnswer::NotAgain;
     }
     let n = name.len();

@@ -45,7 +45,7 @@ use Rattle.text.specs.Bytes.{bytes}
 use Rattle.text.specs.Reading.{starts, isDigit, dotDigit}
 use Rattle.text.proofs.Reading.{starts-append}
 use Rattle.rules.specs.Correction.{endPair, cancelText}
-use Rattle.scan.specs.Volume.{explains}
+use Rattle.volumescan.specs.Volume.{explains}
 use Rattle.sideread.specs.Side.{beside}
 use Rattle.tails.specs.declared.Taken.{Taken}
 use Rattle.reader.specs.declared.EndedAnswer.{EndedAnswer}

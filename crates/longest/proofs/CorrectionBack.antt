@@ -45,7 +45,7 @@ use Rattle.text.specs.Bytes.{bytes}
 use Rattle.text.specs.Reading.{starts, isDigit, dotDigit}
 use Rattle.text.proofs.Reading.{starts-append}
 use Rattle.rules.specs.Correction.{endPair, cancelText}
-use Rattle.scan.specs.Volume.{explains}
+use Rattle.volumescan.specs.Volume.{explains}
 use Rattle.sideread.specs.Side.{beside}
 use Rattle.tails.specs.declared.Taken.{Taken}
 use Rattle.reader.specs.declared.EndedAnswer.{EndedAnswer}
@@ -61,7 +61,7 @@ use Rattle.rules.specs.Correction.{repeatsName, correctionText}
 use Rattle.rules.specs.Line.{alike}
 use Rattle.text.proofs.Tests.{is-le}
 use Rattle.named.specs.Cut.{oneSold}
-use Rattle.scan.specs.declared.Volume.{Volume}
+use Rattle.volumescan.specs.declared.Volume.{Volume}
 use Rattle.heading.specs.Head.{againAt}
 use Rattle.heading.specs.declared.AgainRead.{AgainRead}
 use Rattle.heading.specs.declared.AgainAnswer.{AgainAnswer}

@@ -21,13 +21,13 @@ use Rattle.rules.specs.Conditions.{sellerText, previousText}
 use Rattle.rules.specs.declared.Price.{Price}
 use Rattle.named.proofs.Root.{false-true, both}
 use Rattle.named.proofs.Parts.{all-append}
-use Rattle.scan.specs.declared.Volume.{Volume}
-use Rattle.scan.specs.declared.Volume.the-variants.{Unsaid, Hundreds, Tens, Shares}
-use Rattle.scan.specs.declared.VolumeRead.{VolumeRead}
-use Rattle.scan.specs.declared.VolumeAnswer.{VolumeAnswer}
-use Rattle.scan.specs.declared.VolumeAnswer.the-variants.{Said, NoVolume}
-use Rattle.scan.specs.Volume.{volumeAt, saidText}
-use Rattle.scan.proofs.Shown.{VolumeFound, volume-found}
+use Rattle.volumescan.specs.declared.Volume.{Volume}
+use Rattle.volumescan.specs.declared.Volume.the-variants.{Unsaid, Hundreds, Tens, Shares}
+use Rattle.volumescan.specs.declared.VolumeRead.{VolumeRead}
+use Rattle.volumescan.specs.declared.VolumeAnswer.{VolumeAnswer}
+use Rattle.volumescan.specs.declared.VolumeAnswer.the-variants.{Said, NoVolume}
+use Rattle.volumescan.specs.Volume.{volumeAt, saidText}
+use Rattle.volumescan.proofs.Shown.{VolumeFound, volume-found}
 use Rattle.nameable.proofs.Counts.{take-drop}
 use Rattle.longest.proofs.Tail.{fromAverage, sizeAverage}
 

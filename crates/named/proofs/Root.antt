@@ -13,7 +13,7 @@ use Rattle.text.specs.Reading.{Read, heads, span}
 use Rattle.text.proofs.Texts.{and-left, and-right}
 use Rattle.rules.specs.Tape.{isLetter}
 use Rattle.rules.specs.Columns.{isBlank, blank, word, filled, isRoot}
-use Rattle.suffix.proofs.Fields.{word-blank, word-byte, word-nothing}
+use Rattle.words.proofs.Fields.{word-blank, word-byte, word-nothing}
 
 -- ---- tests
 

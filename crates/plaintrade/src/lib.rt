@@ -21,10 +21,10 @@ ghost use Rattle.plaintrade.specs.Plain.{anyhow, plainRpo, plainMpv, pla
 fn prints_anyhow(st: Settings, s: Security, market: u64, volume: u64) -> bool
     ensures { λ r. ⌜ r ≡ anyhow st s market volume ⌝ }
 {
-    if decision::six(s, market) {
+    if comparing::six(s, market) {
         return true;
     }
-    if decision::at_level(st, volume) {
+    if comparing::at_level(st, volume) {
         return true;
     }
     s.unit == 1
@@ -33,13 +33,13 @@ fn prints_anyhow(st: Settings, s: Security, market: u64, volume: u64) -> bool
 fn prints_rpo(st: Settings, s: Security, market: u64, volume: u64, value: u64) -> bool
     ensures { λ r. ⌜ r ≡ plainRpo st s market volume value ⌝ }
 {
-    if decision::new_high(s, value) {
+    if comparing::new_high(s, value) {
         return true;
     }
-    if decision::new_low(s, value) {
+    if comparing::new_low(s, value) {
         return true;
     }
-    if decision::unlike_printed(s, value) {
+    if comparing::unlike_printed(s, value) {
         return true;
     }
     prints_anyhow(st, s, market, volume)
@@ -48,7 +48,7 @@ fn prints_rpo(st: Settings, s: Security, market: u64, volume: u64, value: u64) -
 fn prints_mpv(st: Settings, s: Security, market: u64, volume: u64, value: u64) -> bool
     ensures { λ r. ⌜ r ≡ plainMpv st s market volume value ⌝ }
 {
-    if decision::far_from_printed(st, s, value) {
+    if comparing::far_from_printed(st, s, value) {
         return true;
     }
     if s.qualified == 0 {
@@ -74,7 +74,7 @@ fn is_full(st: Settings, s: Security, market: u64, whole: u64) -> bool
     ensures { λ r. ⌜ r ≡ plainFull st s market whole ⌝ }
 {
     let mode = st.mode;
-    if decision::is_normal(mode) {
+    if comparing::is_normal(mode) {
         return true;
     }
     decision::full_at(s, market, whole)
@@ -85,16 +85,16 @@ fn is_shown(st: Settings, s: Security, market: u64, volume: u64) -> bool
     ensures { λ r. ⌜ r ≡ plainShows st s market volume ⌝ }
 {
     let mode = st.mode;
-    if decision::is_normal(mode) {
+    if comparing::is_normal(mode) {
         return true;
     }
-    if decision::at_level(st, volume) {
+    if comparing::at_level(st, volume) {
         return true;
     }
     if s.qualified == 0 {
         return true;
     }
-    decision::six(s, market)
+    comparing::six(s, market)
 }
 
 // ---- the security after it
@@ -108,8 +108,8 @@ fn after_plain(s: Security, market: u64, value: u64, prints: bool) -> Security
         market: s.market,
         first: s.first,
         printed: decision::moved(true, prints, value, s.printed),
-        high: decision::moved(true, decision::new_high(s, value), value, s.high),
-        low: decision::moved(true, decision::new_low(s, value), value, s.low),
+        high: decision::moved(true, comparing::new_high(s, value), value, s.high),
+        low: decision::moved(true, comparing::new_low(s, value), value, s.low),
         last: value,
         trades: decision::counted(true, 5, s.trades),
         qualified: decision::counted(true, 1, s.qualified),

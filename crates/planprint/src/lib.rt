@@ -1,5 +1,5 @@
-// The print of a plan (document 01, "Tape characters", "Lines not taken"): the name under which it prints, its length, whether
-// it fits the lent tape (13), and its writer.
+// The print of a plan (document 01, "Tape characters", "Lines not taken"): the name under which it prints, its length,
+// whether it fits the lent tape (13), and its writer.
 use planner::CancelPlan;
 use planner::CorrectionPlan;
 use planner::Plan;

@@ -10,7 +10,7 @@ use borrow.Author.Tests.{not-false}
 use Rattle.text.specs.Bytes.{bytes}
 use Rattle.text.specs.Reading.{starts}
 use Rattle.rules.specs.declared.Letters.{Letters}
-use Rattle.scan.proofs.Shown.{starts-within}
+use Rattle.volumescan.proofs.Shown.{starts-within}
 use Rattle.heading.specs.declared.NameRead.{NameRead}
 use Rattle.heading.specs.declared.NameAnswer.{NameAnswer}
 use Rattle.heading.specs.declared.NameAnswer.the-variants.{Named, NoName}

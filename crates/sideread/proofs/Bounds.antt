@@ -16,12 +16,12 @@ use Rattle.rules.specs.declared.Side.{Side}
 use Rattle.scan.specs.declared.Digits.{Digits}
 use Rattle.scan.specs.declared.PriceAnswer.{PriceAnswer}
 use Rattle.scan.specs.declared.PriceAnswer.the-variants.{Priced, NoPrice}
-use Rattle.scan.specs.declared.Volume.{Volume}
-use Rattle.scan.specs.declared.Volume.the-variants.{Unsaid}
-use Rattle.scan.specs.declared.VolumeAnswer.{VolumeAnswer}
-use Rattle.scan.specs.declared.VolumeAnswer.the-variants.{Said, NoVolume}
+use Rattle.volumescan.specs.declared.Volume.{Volume}
+use Rattle.volumescan.specs.declared.Volume.the-variants.{Unsaid}
+use Rattle.volumescan.specs.declared.VolumeAnswer.{VolumeAnswer}
+use Rattle.volumescan.specs.declared.VolumeAnswer.the-variants.{Said, NoVolume}
 use Rattle.scan.specs.Price.{priceAt}
-use Rattle.scan.specs.Volume.{volumeAt, explained}
+use Rattle.volumescan.specs.Volume.{volumeAt, explained}
 use Rattle.tails.specs.declared.Taken.{Taken}
 use Rattle.tails.specs.Tail.{further, takesCash, cashAt, takesAverage, averageAt, takesStopped, stoppedAt, sellerDays, sellerBy, sellerAt, takesRule, ruleAt, previousIn, previousBy, previousAt, afterPriceAt, atEndAt, tailAt}
 use Rattle.tails.proofs.Steps.{room, days-room, last-room}

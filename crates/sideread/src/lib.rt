@@ -4,16 +4,16 @@ use rules::Letters;
 use rules::Price;
 use rules::Side;
 use scan::PriceAnswer;
-use scan::Volume;
-use scan::VolumeAnswer;
 use tails::Taken;
+use volumescan::Volume;
+use volumescan::VolumeAnswer;
 ghost use mathlib.Core.Path.{_≡_};
 ghost use mathlib.Core.Bool.{_&&_, _||_};
 ghost use Prim.Native.Nat.{_≤_};
 ghost use lib.ListN.{length, drop};
 ghost use Rattle.text.specs.Pick.{pick};
 ghost use Rattle.scan.specs.Price.{priceAt};
-ghost use Rattle.scan.specs.Volume.{volumeAt, explained};
+ghost use Rattle.volumescan.specs.Volume.{volumeAt, explained};
 ghost use Rattle.sideread.specs.Side.{headCount, beside, sidedBy, sideWith, saidSide, sideAt};
 
 // The volume read before on the same line, which one unit of trading must explain too: the original's, or none.
@@ -68,7 +68,7 @@ fn allowed(allows: bool, network: u64, x: Volume, v: Volume) -> bool
     if !allows {
         return false;
     }
-    scan::explained(network, x, v)
+    volumescan::explained(network, x, v)
 }
 
 fn some_network(a: bool, b: bool) -> bool
@@ -100,7 +100,7 @@ fn sided_by(
     };
     let shown = p.price;
     let side = Side {
-        volume: scan::shares_in(v),
+        volume: volumescan::shares_in(v),
         price: shown,
         letters: letters,
         days: 0,
@@ -166,7 +166,7 @@ fn said_side(
 pub fn side_at(first: Beside, letters: Letters, a: bool, b: bool, part: &[u8]) -> SideAnswer
     ensures { λ r. ⌜ r ≡ sideAt first letters a b (now (part .entry)) ⌝ }
 {
-    let volume = scan::volume_at(part);
+    let volume = volumescan::volume_at(part);
     match said_side(first, letters, a, b, part, volume) {
         SideAnswer::Sided(x) => SideAnswer::Sided(x),
         SideAnswer::NoSide => side_with(first, letters, a, b, part, Volume::Unsaid, 0),

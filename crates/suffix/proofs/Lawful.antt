@@ -13,8 +13,8 @@ use Rattle.text.proofs.Told.{told-yes, told-no}
 use Rattle.rules.specs.Tape.{isLetter}
 use Rattle.rules.specs.Columns.{word, leftJustified}
 use Rattle.rules.specs.Names.{texts, isClass, isSeries, isReserved, lawfulField}
-use Rattle.suffix.specs.Word.{WordOf}
-use Rattle.suffix.proofs.Fields.{rest-is, front-length}
+use Rattle.words.specs.Word.{WordOf}
+use Rattle.words.proofs.Fields.{rest-is, front-length}
 
 -- ---- what a test answered
 

@@ -1,3 +1,2 @@
-pub mod Fields
 pub mod Listed
 pub mod Lawful

@@ -6,82 +6,10 @@ ghost use mathlib.Core.List.{[], _∷_};
 ghost use lib.Dec.{eqb};
 ghost use lib.ListN.{length, drop};
 ghost use Rattle.text.specs.Bytes.{bytes};
-ghost use Rattle.text.specs.Pick.{same, among, member};
+ghost use Rattle.text.specs.Pick.{same, member};
 ghost use Rattle.text.specs.Reading.{starts};
-ghost use Rattle.rules.specs.Tape.{isLetter};
-ghost use Rattle.rules.specs.Columns.{blank, word, leftJustified};
+ghost use Rattle.rules.specs.Columns.{word};
 ghost use Rattle.rules.specs.Names.{texts, listedSuffixes, isClass, isSeries, isPreferred, isSuffix, isTemporary, isAppendage, isReserved, lawfulField, lawfulName};
-ghost use Rattle.suffix.specs.Word.{WordOf};
-
-// ---- fields
-
-// The length of the text at a field's left, up to the first blank.
-pub fn word_length(field: &[u8]) -> usize
-    ensures { λ r. ⌜ WordOf (now (field .entry)) r ⌝ }
-{
-    let mut i = 0;
-    while i < field.len() {
-        if field[i] == 32 {
-            return i;
-        }
-        i += 1;
-    }
-    i
-}
-
-fn is_blank(field: &[u8]) -> bool
-    ensures { λ r. ⌜ r ≡ blank (now (field .entry)) ⌝ }
-{
-    let mut i = 0;
-    while i < field.len() {
-        if field[i] != 32 {
-            return false;
-        }
-        i += 1;
-    }
-    true
-}
-
-// A text from its left, then blanks only.
-fn is_left_justified(field: &[u8]) -> bool
-    ensures { λ r. ⌜ r ≡ leftJustified (now (field .entry)) ⌝ }
-{
-    let n = word_length(field);
-    is_blank(&field[n..])
-}
-
-// ---- listed texts
-
-// One of the bytes of a text.
-pub fn is_among(b: u8, text: &[u8]) -> bool
-    ensures { λ r. ⌜ r ≡ among b (now (text .entry)) ⌝ }
-{
-    let mut i = 0;
-    while i < text.len() {
-        if b == text[i] {
-            return true;
-        }
-        i += 1;
-    }
-    false
-}
-
-// A text stands at the front of another.
-pub fn begins(front: &[u8], text: &[u8]) -> bool
-    ensures { λ r. ⌜ r ≡ starts (now (front .entry)) (now (text .entry)) ⌝ }
-{
-    let mut i = 0;
-    while i < front.len() {
-        if text.len() <= i {
-            return false;
-        }
-        if front[i] != text[i] {
-            return false;
-        }
-        i += 1;
-    }
-    true
-}
 
 // The suffixes that are listed one by one, six bytes each, and their lengths.
 const SUFFIX_BYTES: [u8; 252] =
@@ -149,17 +77,6 @@ fn is_listed(text: &[u8]) -> bool
     false
 }
 
-// ---- the preferred families, by rule
-
-pub fn is_letter(b: u8) -> bool
-    ensures { λ r. ⌜ r ≡ isLetter b ⌝ }
-{
-    if 65 <= b {
-        return b <= 90;
-    }
-    false
-}
-
 // What may follow the letter of a class: nothing, .CV, .CL or w.
 fn is_class_end(text: &[u8]) -> bool
     ensures { λ r. ⌜ r ≡ member (now (text .entry)) (texts ("" ∷ ".CV" ∷ ".CL" ∷ "w" ∷ [])) ⌝ }
@@ -183,7 +100,7 @@ fn is_class(text: &[u8]) -> bool
     if text.len() == 0 {
         return false;
     }
-    if is_letter(text[0]) {
+    if words::is_letter(text[0]) {
         return is_class_end(&text[1..]);
     }
     false
@@ -196,7 +113,7 @@ fn is_series(text: &[u8]) -> bool
     if text.len() == 0 {
         return false;
     }
-    if is_among(text[0], b"ABCDEFGHIJKMNOPQRS") {
+    if words::is_among(text[0], b"ABCDEFGHIJKMNOPQRS") {
         return text::same_text(&text[1..], b"");
     }
     false
@@ -206,7 +123,7 @@ fn is_series(text: &[u8]) -> bool
 fn is_preferred_class(text: &[u8]) -> bool
     ensures { λ r. ⌜ r ≡ starts (bytes "p") (now (text .entry)) && isClass (drop 1 (now (text .entry))) ⌝ }
 {
-    if begins(b"p", text) {
+    if words::begins(b"p", text) {
         return is_class(&text[1..]);
     }
     false
@@ -216,7 +133,7 @@ fn is_preferred_class(text: &[u8]) -> bool
 fn is_preferred_series(text: &[u8]) -> bool
     ensures { λ r. ⌜ r ≡ starts (bytes "pC") (now (text .entry)) && isSeries (drop 2 (now (text .entry))) ⌝ }
 {
-    if begins(b"pC", text) {
+    if words::begins(b"pC", text) {
         return is_series(&text[2..]);
     }
     false
@@ -295,15 +212,15 @@ pub fn is_reserved(root: &[u8]) -> bool
 fn has_reserved_root(field: &[u8]) -> bool
     ensures { λ r. ⌜ r ≡ isReserved (word (now (field .entry))) ⌝ }
 {
-    let n = word_length(field);
+    let n = words::word_length(field);
     is_reserved(&field[..n])
 }
 
 fn has_lawful_suffix(field: &[u8]) -> bool
     ensures { λ r. ⌜ r ≡ lawfulField isSuffix (now (field .entry)) ⌝ }
 {
-    if is_left_justified(field) {
-        let n = word_length(field);
+    if words::is_left_justified(field) {
+        let n = words::word_length(field);
         if n == 0 {
             return true;
         }
@@ -315,8 +232,8 @@ fn has_lawful_suffix(field: &[u8]) -> bool
 fn has_lawful_temporary(field: &[u8]) -> bool
     ensures { λ r. ⌜ r ≡ lawfulField isTemporary (now (field .entry)) ⌝ }
 {
-    if is_left_justified(field) {
-        let n = word_length(field);
+    if words::is_left_justified(field) {
+        let n = words::word_length(field);
         if n == 0 {
             return true;
         }
@@ -328,8 +245,8 @@ fn has_lawful_temporary(field: &[u8]) -> bool
 fn has_lawful_appendage(network: u64, field: &[u8]) -> bool
     ensures { λ r. ⌜ r ≡ lawfulField (isAppendage network) (now (field .entry)) ⌝ }
 {
-    if is_left_justified(field) {
-        let n = word_length(field);
+    if words::is_left_justified(field) {
+        let n = words::word_length(field);
         if n == 0 {
             return true;
         }

@@ -16,8 +16,8 @@ use Rattle.text.proofs.Writing.{written-nothing}
 use Rattle.rules.specs.Tape.{isRaised}
 use Rattle.rules.specs.Columns.{word}
 use Rattle.rules.specs.Names.{rootField, suffixField, temporaryField, appendageField, partText, nameText, hasTemporary, sameName}
-use Rattle.suffix.specs.Word.{WordOf}
-use Rattle.suffix.proofs.Fields.{word-blank, word-byte, word-nothing}
+use Rattle.words.specs.Word.{WordOf}
+use Rattle.words.proofs.Fields.{word-blank, word-byte, word-nothing}
 use Rattle.suffix.proofs.Lawful.{unlike-nothing}
 
 -- ---- a part: n bytes of its field, with the letter dot or without

@@ -18,7 +18,7 @@ pub fn has_temporary(name: &[u8]) -> bool
     requires { ⌜ length (now name) ≡ 19 ⌝ }
     ensures { λ r. ⌜ r ≡ hasTemporary (now (name .entry)) ⌝ }
 {
-    let n = suffix::word_length(&name[13..17]);
+    let n = words::word_length(&name[13..17]);
     if n == 0 {
         return false; // blank
     }
@@ -28,14 +28,14 @@ pub fn has_temporary(name: &[u8]) -> bool
 fn is_raised(b: u8) -> bool
     ensures { λ r. ⌜ r ≡ isRaised b ⌝ }
 {
-    suffix::is_among(b, b"prw")
+    words::is_among(b, b"prw")
 }
 
 // A part after the root: with a letter dot before it, unless it begins with a raised letter.
 fn part_length(field: &[u8]) -> usize
     ensures { λ r. ⌜ (r ≡ length (partText (word (now (field .entry))))) × (r ≤ length (now (field .entry)) + 1) ⌝ }
 {
-    let n = suffix::word_length(field);
+    let n = words::word_length(field);
     if n == 0 {
         return 0;
     }
@@ -59,7 +59,7 @@ pub fn name_length(name: &[u8], temporary: bool) -> usize
     requires { ⌜ length (now name) ≡ 19 ⌝ }
     ensures { λ r. ⌜ (r ≡ length (nameText temporary (now (name .entry)))) × (r ≤ 22) ⌝ }
 {
-    let root = suffix::word_length(&name[..6]);
+    let root = words::word_length(&name[..6]);
     let suffix = part_length(&name[6..13]);
     let shown = shown_length(&name[13..17], temporary);
     let appendage = part_length(&name[17..19]);
@@ -70,7 +70,7 @@ fn write_word(rest: &mut [u8], field: &[u8]) -> usize
     requires { ⌜ length (word (now field)) ≤ length (now rest) ⌝ }
     ensures { λ r. ⌜ Written (word (now (field .entry))) (now (rest .entry)) (now (rest .exit)) r ⌝ }
 {
-    let n = suffix::word_length(field);
+    let n = words::word_length(field);
     text::write_bytes(rest, &field[..n])
 }
 
@@ -86,7 +86,7 @@ fn write_part(rest: &mut [u8], field: &[u8]) -> usize
     requires { ⌜ length (partText (word (now field))) ≤ length (now rest) ⌝ }
     ensures { λ r. ⌜ Written (partText (word (now (field .entry)))) (now (rest .entry)) (now (rest .exit)) r ⌝ }
 {
-    let n = suffix::word_length(field);
+    let n = words::word_length(field);
     if n == 0 {
         return 0;
     }

@@ -26,7 +26,7 @@ use Rattle.scan.specs.declared.PriceAnswer.the-variants.{Priced, NoPrice}
 use Rattle.scan.specs.Digits.{digitsAt, zeroFirst}
 use Rattle.scan.specs.Price.{priceAt}
 use Rattle.scan.proofs.Text.{digits-decimal, price-text}
-use Rattle.scan.proofs.Shown.{starts-take, starts-within}
+use Rattle.volumescan.proofs.Shown.{starts-take, starts-within}
 use Rattle.tails.specs.declared.Taken.{Taken}
 use Rattle.tails.specs.Tail.{plusCash, plusAverage, plusStopped, plusSeller, plusRule, plusPrevious, sideWith, further, takesCash, cashAt, takesAverage, averageAt, takesStopped, stoppedAt, sellerDays, sellerBy, sellerAt, takesRule, ruleAt, previousIn, previousBy, previousAt, afterPriceAt, atEndAt, tailAt}
 use Rattle.tails.proofs.Steps.{SellerFound, seller-found, PreviousFound, previous-found, previous-length}

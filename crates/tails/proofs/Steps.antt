@@ -23,7 +23,7 @@ use Rattle.scan.specs.Digits.{digitsOnto, digitsAt}
 use Rattle.scan.specs.Price.{priceAt}
 use Rattle.scan.proofs.Bounds.{digits-count, digits-within}
 use Rattle.scan.proofs.Text.{price-within}
-use Rattle.scan.proofs.Shown.{starts-within}
+use Rattle.volumescan.proofs.Shown.{starts-within}
 use Rattle.tails.specs.declared.Taken.{Taken}
 use Rattle.tails.specs.Tail.{plusCash, plusAverage, plusStopped, plusSeller, plusRule, plusPrevious, sideWith, further, takesCash, cashAt, takesAverage, averageAt, takesStopped, stoppedAt, sellerDays, sellerBy, sellerAt, takesRule, ruleAt, closedBy, previousIn, previousBy, previousAt, afterPriceAt, atEndAt, tailAt}
 

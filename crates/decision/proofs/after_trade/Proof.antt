@@ -1,4 +1,4 @@
-use Rattle.decision.proofs.Values.{traded}
+use Rattle.comparing.proofs.Values.{traded}
 use borrow.Author.Needs.{needs}
 use Rattle.decision.proofs.after_trade.Statement.{statement}
 use Rattle.decision.proofs.after_trade.Tie as tie

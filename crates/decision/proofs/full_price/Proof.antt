@@ -1,4 +1,4 @@
-use Rattle.decision.proofs.Values.{full-whole}
+use Rattle.comparing.proofs.Values.{full-whole}
 use borrow.Author.Needs.{needs}
 use Rattle.decision.proofs.full_price.Statement.{statement}
 use Rattle.decision.proofs.full_price.Tie as tie

@@ -1,4 +1,4 @@
-use Rattle.decision.proofs.Values.{high-moved}
+use Rattle.comparing.proofs.Values.{high-moved}
 use borrow.Author.Needs.{needs}
 use Rattle.decision.proofs.high_after.Statement.{statement}
 use Rattle.decision.proofs.high_after.Tie as tie

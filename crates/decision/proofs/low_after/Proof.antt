@@ -1,4 +1,4 @@
-use Rattle.decision.proofs.Values.{low-moved}
+use Rattle.comparing.proofs.Values.{low-moved}
 use borrow.Author.Needs.{needs}
 use Rattle.decision.proofs.low_after.Statement.{statement}
 use Rattle.decision.proofs.low_after.Tie as tie

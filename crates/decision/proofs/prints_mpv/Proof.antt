@@ -1,5 +1,5 @@
 use Rattle.text.proofs.Told.{answers}
-use Rattle.decision.specs.Parts.{printsMpv}
+use Rattle.comparing.specs.Parts.{printsMpv}
 use borrow.Author.Needs.{needs}
 use Rattle.decision.proofs.prints_mpv.Statement.{statement}
 use Rattle.decision.proofs.prints_mpv.Tie as tie

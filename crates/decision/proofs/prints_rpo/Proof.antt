@@ -1,5 +1,5 @@
 use Rattle.text.proofs.Told.{answers}
-use Rattle.decision.specs.Parts.{printsRpo}
+use Rattle.comparing.specs.Parts.{printsRpo}
 use borrow.Author.Needs.{needs}
 use Rattle.decision.proofs.prints_rpo.Statement.{statement}
 use Rattle.decision.proofs.prints_rpo.Tie as tie

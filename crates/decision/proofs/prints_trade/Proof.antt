@@ -1,4 +1,4 @@
-use Rattle.decision.proofs.Values.{modes}
+use Rattle.comparing.proofs.Values.{modes}
 use borrow.Author.Needs.{needs}
 use Rattle.decision.proofs.prints_trade.Statement.{statement}
 use Rattle.decision.proofs.prints_trade.Tie as tie

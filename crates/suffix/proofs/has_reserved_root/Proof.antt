@@ -1,4 +1,4 @@
-use Rattle.suffix.proofs.Fields.{word-cut}
+use Rattle.words.proofs.Fields.{word-cut}
 use Rattle.suffix.proofs.Lawful.{reserved-word}
 use borrow.Author.Needs.{needs}
 use Rattle.suffix.proofs.has_reserved_root.Statement.{statement}

@@ -1,4 +1,4 @@
-use Rattle.suffix.proofs.Fields.{word-cut}
+use Rattle.words.proofs.Fields.{word-cut}
 use Rattle.symbol.proofs.Text.{written-none, room-raised, written-raised, room-dotted, written-dotted}
 use borrow.Author.Needs.{needs}
 use Rattle.symbol.proofs.write_part.Statement.{statement}

@@ -1,4 +1,4 @@
-use Rattle.suffix.proofs.Fields.{word-cut}
+use Rattle.words.proofs.Fields.{word-cut}
 use Rattle.symbol.proofs.Text.{room-word, written-word}
 use borrow.Author.Needs.{needs}
 use Rattle.symbol.proofs.write_word.Statement.{statement}

@@ -1,0 +1,113 @@
+-- Laws of the rules of "Trades by mode", in the form of the code's needs. Assumes nothing.
+use Prim.Native.Nat.{ℕ, _+_, _-_, _*_, _/_, _≤_, _<_}
+use native.Mathlib.Omega.{arith}
+use mathlib.Core.Path.{_≡_, refl, sym, ap, _∙_}
+use mathlib.Core.Bool.{Bool, true, false, _&&_, _||_, not}
+use lib.Dec.{eqb, leb, ltb}
+use borrow.Author.Tests.{lt-ltb, le-ltb, leb-true, leb-false}
+use Rattle.text.specs.Pick.{pick}
+use Rattle.rules.specs.Price.{wholePart, units}
+use Rattle.rules.specs.Qualifying.{forRange, forLast}
+use Rattle.rules.specs.Trade.{atLevel, newHigh, newLow, fullPrice, printsAnyhow, unlikePrinted, distance, farFromPrinted, printsTrade, isNormal, highAfter, lowAfter, lastAfter, counted, afterTrade}
+use Rattle.rules.specs.declared.Mode.{Mode}
+use Rattle.rules.specs.declared.Mode.the-variants.{Normal, Dvd, Rpo, Mpv}
+use Rattle.rules.specs.declared.Price.{Price}
+use Rattle.rules.specs.declared.Side.{Side}
+use Rattle.rules.specs.declared.Settings.{Settings}
+use Rattle.rules.specs.declared.Security.{Security}
+use Rattle.comparing.specs.Parts.{newAt, lastUnlike, lastFar, printsRpo, printsMpv}
+use Rattle.rules.specs.Trade.{fullAt}
+
+-- ---- a price's value, as a callee answered it
+
+module _ (v : ℕ) (p : Price) (e : v ≡ units p) (s : Security) (r : Bool) where
+  pub new-value : r ≡ newAt s v → r ≡ (newHigh s (units p) || newLow s (units p))
+  unfolding newAt
+  new-value h = rw (← e) h
+
+  pub unlike-value : r ≡ unlikePrinted s v → r ≡ unlikePrinted s (units p)
+  unlike-value h = rw (← e) h
+
+  pub far-value : (st : Settings) → r ≡ farFromPrinted st s v → r ≡ farFromPrinted st s (units p)
+  far-value st h = rw (← e) h
+
+pub ruleset values = (new-value, unlike-value, far-value)
+
+pub full-whole : (s : Security) (market : ℕ) (x : Side) (w : ℕ) (r : Bool) → w ≡ wholePart (x .price) → r ≡ fullAt s market w → r ≡ fullPrice s market x
+unfolding fullAt fullPrice
+full-whole s market x w r e h = rw (← e) h
+
+-- ---- a distance without overflow
+
+pub not-above : (a b m : ℕ) → a ≤ b → false ≡ ltb (b + m * 5000000) a
+not-above a b m h = sym (le-ltb (b + m * 5000000) a (omega arith))
+
+-- a is above b by more than m steps exactly if m steps are at most one less than the difference
+pub above : (a b m : ℕ) → b < a → leb m ((a - b - 1) / 5000000) ≡ ltb (b + m * 5000000) a
+above a b m h = go (leb m ((a - b - 1) / 5000000)) refl
+  where
+    go : (t : Bool) → leb m ((a - b - 1) / 5000000) ≡ t → t ≡ ltb (b + m * 5000000) a
+    go true k = sym (lt-ltb (b + m * 5000000) a (omega (arith, leb-true m ((a - b - 1) / 5000000) k)))
+    go false k = sym (le-ltb (b + m * 5000000) a (omega (arith, leb-false m ((a - b - 1) / 5000000) k)))
+
+-- ---- by mode
+
+module _ (m : Mode) where
+  pub normal-yes : m ≡ Normal → true ≡ isNormal m
+  unfolding isNormal
+  normal-yes h = rw h
+
+  pub normal-dvd : m ≡ Dvd → false ≡ isNormal m
+  unfolding isNormal
+  normal-dvd h = rw h
+
+  pub normal-rpo : m ≡ Rpo → false ≡ isNormal m
+  unfolding isNormal
+  normal-rpo h = rw h
+
+  pub normal-mpv : m ≡ Mpv → false ≡ isNormal m
+  unfolding isNormal
+  normal-mpv h = rw h
+
+module _ (st : Settings) (s : Security) (market : ℕ) (x : Side) where
+  pub prints-normal : st .mode ≡ Normal → true ≡ printsTrade st s market x
+  unfolding printsTrade
+  prints-normal h = rw h
+
+  pub prints-dvd : st .mode ≡ Dvd → true ≡ printsTrade st s market x
+  unfolding printsTrade
+  prints-dvd h = rw h
+
+  pub prints-rpo : (r : Bool) → st .mode ≡ Rpo → r ≡ printsRpo st s market x → r ≡ printsTrade st s market x
+  unfolding printsTrade printsRpo lastUnlike printsAnyhow atLevel
+  prints-rpo r h e = rw h e
+
+  pub prints-mpv : (r : Bool) → st .mode ≡ Mpv → r ≡ printsMpv st s market x → r ≡ printsTrade st s market x
+  unfolding printsTrade printsMpv lastFar printsAnyhow atLevel farFromPrinted distance
+  prints-mpv r h e = rw h e
+
+pub ruleset modes = (normal-yes, normal-dvd, normal-rpo, normal-mpv, prints-normal, prints-dvd, prints-rpo, prints-mpv)
+
+-- ---- after a trade
+
+module _ (s : Security) (x : Side) (v : ℕ) (q n : Bool) (r : ℕ) where
+  pub high-moved : v ≡ units (x .price) → q ≡ forRange (x .letters) → n ≡ newHigh s v → r ≡ pick (q && n) v (s .high) → r ≡ highAfter s x
+  unfolding highAfter
+  high-moved a b c e = rw (← a, ← b, ← c) e
+
+  pub low-moved : v ≡ units (x .price) → q ≡ forRange (x .letters) → n ≡ newLow s v → r ≡ pick (q && n) v (s .low) → r ≡ lowAfter s x
+  unfolding lowAfter
+  low-moved a b c e = rw (← a, ← b, ← c) e
+
+pub traded : (st : Settings) (s : Security) (market : ℕ) (x : Side) (printed high low last trades qualified primaries : ℕ) (q : Bool)
+    → printed ≡ pick (printsTrade st s market x) (units (x .price)) (s .printed)
+    → high ≡ highAfter s x
+    → low ≡ lowAfter s x
+    → last ≡ lastAfter s x
+    → trades ≡ counted true 5 (s .trades)
+    → q ≡ forLast (x .letters)
+    → qualified ≡ counted q 1 (s .qualified)
+    → primaries ≡ counted (eqb market (s .market)) 6 (s .primaries)
+    → (record { unit = s .unit; network = s .network; market = s .market; first = s .first; printed = printed; high = high; low = low; last = last; trades = trades; qualified = qualified; primaries = primaries }) ≡ afterTrade st s market x
+unfolding afterTrade
+traded st s market x printed high low last trades qualified primaries q e1 e2 e3 e4 e5 e6 e7 e8 = rw (e1, e2, e3, e4, e5, e7, e6, e8)

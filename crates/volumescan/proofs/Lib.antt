@@ -1,0 +1,4 @@
+pub mod Volumes
+pub mod Units
+pub mod VolumeBack
+pub mod Shown
