@@ -224,7 +224,7 @@ whole-day cs ks a =
 
 -- ---- and so of two runs of the engine
 
-joined : (cs : List Lent) (day : Day) → tapeFrom day cs ≡ tape day (callsOf cs)
+pub joined : (cs : List Lent) (day : Day) → tapeFrom day cs ≡ tape day (callsOf cs)
 unfolding tapeFrom tape
 joined [] day = refl
 joined (c ∷ cs) day = ap (λ (t : List ℕ). tapeOf day (callOf c) ++ t) (joined cs (after day (callOf c)))
