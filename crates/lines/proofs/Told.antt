@@ -1,49 +1,21 @@
--- The text of a refusal: its writers' steps, and its length. Assumes nothing.
-use Prim.Native.Nat.{ℕ, zero, suc, _+_, _-_, _^_, _≤_, _<_}
+-- The text of a refusal: its length, and what is told of an outcome. Assumes nothing.
+use Prim.Native.Nat.{ℕ, _-_, _^_, _≤_, _<_}
 use native.Mathlib.Omega.{arith}
-use mathlib.Core.Path.{_≡_, refl, sym, ap, _∙_}
-use mathlib.Core.List.{List, [], _∷_, _++_}
-use lib.ListN.{length, take, drop, set, replicate, length-append, length-replicate, length-take, length-drop}
-use Rattle.text.specs.Decimal.{decimal}
-use Rattle.text.specs.Put.{put, Written}
-use Rattle.text.proofs.Decimal.{length-decimal}
+use mathlib.Core.Path.{_≡_}
+use mathlib.Core.List.{List}
+use lib.ListN.{length, take, drop, length-append, length-take, length-drop}
+use Rattle.text.specs.Put.{Written}
 use Rattle.text.proofs.Writing.{written-nothing}
 use Rattle.rules.specs.Refusal.{numberOf}
 use Rattle.rules.specs.declared.Refusal.{Refusal}
 use Rattle.rules.specs.declared.Refusal.the-variants.{Shape, Kind, NoDate, Form, Value, NotEntered, InUse, Name, SameName, Conditions, Unmatched, DateOrder, Room, NoPrint}
 use Rattle.engine.specs.declared.Outcome.{Outcome}
 use Rattle.engine.specs.declared.Outcome.the-variants.{Accepted, Refused}
-use Rattle.lines.specs.Refusals.{right, refusalLine}
+use Rattle.right.proofs.Writes.{length-right}
+use Rattle.lines.specs.Refusals.{refusalLine}
 use Rattle.lines.specs.Feed.{printed, told}
 
--- a turn's store: one blank more
-pub blank-on : (l : List ℕ) (i : ℕ) → i < length l → set (replicate i 32 ++ drop i l) i 32 ≡ replicate (suc i) 32 ++ drop (suc i) l
-blank-on [] i h = absurd (omega arith)
-blank-on (x ∷ xs) zero h = refl
-blank-on (x ∷ xs) (suc i) h = ap (λ (l : List ℕ). 32 ∷ l) (blank-on xs i (omega arith))
-
--- all blanks are written
-pub blanks-done : (b a : List ℕ) (i k : ℕ) → i ≤ k → k ≤ i → a ≡ replicate i 32 ++ drop i b → k ≤ length b → Written (replicate k 32) b a i
-unfolding put
-blanks-done b a i k l m h w =
-    let e : i ≡ k = omega arith in
-    record { tape = h ∙ simp (e, length-replicate); count-is = e ∙ sym (length-replicate k 32); within = omega arith }
-
--- ---- a number in its width, by the digits and blanks that were counted
-
-module _ (width n k b : ℕ) (digits : k ≡ length (decimal n)) (filled : b ≡ width - k) where
-  pub right-parts : right width n ≡ replicate b 32 ++ decimal n
-  unfolding right
-  right-parts = rw (filled, digits)
-
-  pub blanks-room : (m : ℕ) → length (right width n) ≤ m → b ≤ m
-  blanks-room m h = omega (arith, simp (right-parts, length-append, length-replicate) at h)
-
 -- ---- the whole line
-
-pub length-right : (w n : ℕ) → n < 10 ^ suc w → length (right (suc w) n) ≡ suc w
-unfolding right
-length-right w n h = let l = length-decimal w n h in simp (length-append, length-replicate) (omega arith)
 
 number-small : (r : Refusal) → numberOf r < 10 ^ 3
 unfolding numberOf

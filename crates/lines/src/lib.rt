@@ -6,11 +6,11 @@ use rules::Settings;
 ghost use mathlib.Core.Path.{_≡_};
 ghost use mathlib.Core.List.{[], _∷_};
 ghost use Prim.Native.Nat.{_+_, _-_, _≤_};
-ghost use lib.ListN.{length, replicate, take, drop};
+ghost use lib.ListN.{length, take, drop};
 ghost use Rattle.text.specs.Put.{Written};
 ghost use Rattle.rules.specs.Refusal.{numberOf};
 ghost use Rattle.lines.specs.Lines.{lineEnd};
-ghost use Rattle.lines.specs.Refusals.{right, refusalLine};
+ghost use Rattle.lines.specs.Refusals.{refusalLine};
 ghost use Rattle.lines.specs.Feed.{started, printed, told, roomLeft, linesTaken, blockTaken, Stands, Steps};
 
 // Where the reading of a block stands: the settings, the number of the next line, the bytes of the block that are read,
@@ -111,45 +111,12 @@ pub fn number_of(r: Refusal) -> u64
     }
 }
 
-// How many blanks fill k digits up to a width.
-fn blanks(width: usize, k: usize) -> usize
-    ensures { λ r. ⌜ r ≡ width - k ⌝ }
-{
-    if k < width {
-        return width - k;
-    }
-    0
-}
-
-fn write_blanks(rest: &mut [u8], k: usize) -> usize
-    requires { ⌜ k ≤ length (now rest) ⌝ }
-    ensures { λ r. ⌜ Written (replicate k 32) (now (rest .entry)) (now (rest .exit)) r ⌝ }
-{
-    let mut i = 0;
-    while i < k {
-        rest[i] = 32;
-        i += 1;
-    }
-    i
-}
-
-// A number, right-justified in a width.
-fn write_right(rest: &mut [u8], width: usize, n: u64) -> usize
-    requires { ⌜ length (right width n) ≤ length (now rest) ⌝ }
-    ensures { λ r. ⌜ Written (right width n) (now (rest .entry)) (now (rest .exit)) r ⌝ }
-{
-    let k = text::decimal_length(n);
-    let b = blanks(width, k);
-    let at = write_blanks(rest, b);
-    at + text::write_decimal(&mut rest[at..], n)
-}
-
 fn write_refusal(rest: &mut [u8], number: u64, refusal: u64) -> usize
     requires { ⌜ length (refusalLine number refusal) ≤ length (now rest) ⌝ }
     ensures { λ r. ⌜ Written (refusalLine number refusal) (now (rest .entry)) (now (rest .exit)) r ⌝ }
 {
-    let a = write_right(rest, 10, number);
-    let b = a + write_right(&mut rest[a..], 3, refusal);
+    let a = right::write_right(rest, 10, number);
+    let b = a + right::write_right(&mut rest[a..], 3, refusal);
     b + text::write_bytes(&mut rest[b..], b"\n")
 }
 

@@ -4,10 +4,10 @@ use native.Mathlib.Numerals.{add-one}
 use mathlib.Core.Path.{_≡_, refl}
 use mathlib.Core.List.{_++_}
 use lib.ListN.{length, drop, replicate, length-set}
-use Rattle.lines.proofs.Told.{blank-on, blanks-done}
+use Rattle.right.proofs.Writes.{blank-on, blanks-done}
 use borrow.Author.Needs.{needs}
-use Rattle.lines.proofs.write_blanks.Statement.{statement}
-use Rattle.lines.proofs.write_blanks.Tie as tie
+use Rattle.right.proofs.write_blanks.Statement.{statement}
+use Rattle.right.proofs.write_blanks.Tie as tie
 
 abbrev Inv-loop : tie.InvT-loop
 Inv-loop rest₀ k i₀ rest i = (i ≤ k) × (rest ≡ replicate i 32 ++ drop i rest₀) × (length rest ≡ length rest₀)

@@ -1,8 +1,8 @@
 use Rattle.text.proofs.Writing.{joined, room, fits}
-use Rattle.lines.proofs.Told.{right-parts, blanks-room}
+use Rattle.right.proofs.Writes.{right-parts, blanks-room}
 use borrow.Author.Needs.{needs}
-use Rattle.lines.proofs.write_right.Statement.{statement}
-use Rattle.lines.proofs.write_right.Tie as tie
+use Rattle.right.proofs.write_right.Statement.{statement}
+use Rattle.right.proofs.write_right.Tie as tie
 
 decimal-length-requires : tie.Need-decimal-length-requires
 decimal-length-requires c κs = search needs
