@@ -196,3 +196,12 @@ announced-some t (mode Dvd n h k e) = rw e (omega arith)
 announced-some t (mode Rpo n h k e) = rw e (omega arith)
 announced-some t (mode Mpv n h k e) = rw e (omega arith)
 announced-some t (level n h k e) = rw e (omega arith)
+
+-- at most 42 bytes
+pub announced-most : (t : List ℕ) → Announced t → length t ≤ 42
+unfolding modeText minimumText levelText
+announced-most t (mode Normal n h k e) = rw e (omega arith)
+announced-most t (mode Dvd n h k e) = rw e (omega arith)
+announced-most t (mode Rpo n h k e) = rw e (omega arith)
+announced-most t (mode Mpv n h k e) = rw (e, length-append, length-append) (omega (arith, dollars-length n k .1))
+announced-most t (level n h k e) = rw (e, length-append, length-append) (omega (arith, volume-length n k .1))

@@ -30,42 +30,45 @@ given b n = pick b (Is n) Blank
 
 -- ---- within its columns
 
-below-power : (d n : ℕ) → isPrice n d ≡ true → n < 10 ^ 14
+pub below-power : (d n : ℕ) → isPrice n d ≡ true → n < 10 ^ 14
 unfolding isPrice
 below-power d n h =
     let e = and-right (leb 1 n) _ h in
     let l : d ≤ 8 = leb-true d 8 (and-left (leb d 8) _ e) in
     lt-of-lt-of-le (ltb-true n (10 ^ (6 + d)) (and-right (leb d 8) _ e)) (pow-le-pow-right {n = 10} (omega arith) {i = 6 + d} {j = 14} (omega (l, arith)))
 
-small-decimals : (d n : ℕ) → isPrice n d ≡ true → d < 10 ^ 1
+pub few-decimals : (d n : ℕ) → isPrice n d ≡ true → d ≤ 8
 unfolding isPrice
-small-decimals d n h =
-    let e = and-right (leb 1 n) _ h in
-    let l : d ≤ 8 = leb-true d 8 (and-left (leb d 8) _ e) in
-    omega (l, arith)
+few-decimals d n h = leb-true d 8 (and-left (leb d 8) _ (and-right (leb 1 n) _ h))
 
-volume-small : (v : ℕ) → between 1 999999999 v ≡ true → v < 10 ^ 9
+small-decimals : (d n : ℕ) → isPrice n d ≡ true → d < 10 ^ 1
+small-decimals d n h = omega (few-decimals d n h, arith)
+
+pub volume-small : (v : ℕ) → between 1 999999999 v ≡ true → v < 10 ^ 9
 unfolding between
 volume-small v h = omega (leb-true v 999999999 (and-right (leb 1 v) _ h), arith)
 
-days-small : (b : Bool) (n : ℕ) → pick b (between 1 999 n) (eqb n 0) ≡ true → n < 10 ^ 3
+pub days-small : (b : Bool) (n : ℕ) → pick b (between 1 999 n) (eqb n 0) ≡ true → n < 10 ^ 3
 unfolding pick between
 days-small true n h = omega (leb-true n 999 (and-right (leb 1 n) _ h), arith)
 days-small false n h = omega (eqb-true n 0 h, arith)
 
 -- the previous last, where it is there
-PreviousFits : Bool → ℕ → ℕ → Bool
+unfoldable pub PreviousFits : Bool → ℕ → ℕ → Bool
 PreviousFits b m e = pick b (isPrice m e) (eqb m 0 && eqb e 0)
 
-previous-small : (b : Bool) (m e : ℕ) → PreviousFits b m e ≡ true → m < 10 ^ 14
+pub previous-small : (b : Bool) (m e : ℕ) → PreviousFits b m e ≡ true → m < 10 ^ 14
 unfolding PreviousFits pick
 previous-small true m e h = below-power e m h
 previous-small false m e h = omega (eqb-true m 0 (and-left (eqb m 0) _ h), arith)
 
-previous-decimals : (b : Bool) (m e : ℕ) → PreviousFits b m e ≡ true → e < 10 ^ 1
+pub previous-few : (b : Bool) (m e : ℕ) → PreviousFits b m e ≡ true → e ≤ 8
 unfolding PreviousFits pick
-previous-decimals true m e h = small-decimals e m h
-previous-decimals false m e h = omega (eqb-true e 0 (and-right (eqb m 0) _ h), arith)
+previous-few true m e h = few-decimals e m h
+previous-few false m e h = omega (eqb-true e 0 (and-right (eqb m 0) _ h), arith)
+
+previous-decimals : (b : Bool) (m e : ℕ) → PreviousFits b m e ≡ true → e < 10 ^ 1
+previous-decimals b m e h = omega (previous-few b m e h, arith)
 
 -- ---- what is asked of a number that may be left blank
 

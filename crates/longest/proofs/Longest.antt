@@ -334,7 +334,7 @@ announced-length t R a s =
     let z : eqb (length t) 0 ≡ false = sym (is-ne (length t) 0 (λ e. omega (e, announced-some t a, arith))) in
     rw (first-announced (t ++ R) s, announced-back t R a, z) (omega arith)
 
-in-range : (low high n : ℕ) → between low high n ≡ true → (low ≤ n) × (n ≤ high)
+pub in-range : (low high n : ℕ) → between low high n ≡ true → (low ≤ n) × (n ≤ high)
 unfolding between
 in-range low high n h = (leb-true low n (and-left (leb low n) _ h), leb-true n high (and-right (leb low n) _ h))
 
@@ -400,7 +400,7 @@ hasFact : Option ReadFact → Bool
 hasFact (some f) = true
 hasFact none = false
 
-no-fact : (f : ReadFact) → none ≡ some f → ⊥
+pub no-fact : (f : ReadFact) → none ≡ some f → ⊥
 unfolding hasFact
 no-fact f e = false-true (ap hasFact e)
 
@@ -413,7 +413,7 @@ unfolding theFact
 some-same-fact e = ap theFact e
 
 -- no facts, no length
-no-length : (s : List ℕ) (r : ReadAnswer) → factIn s r ≡ none → lengthOf r ≡ 0
+pub no-length : (s : List ℕ) (r : ReadAnswer) → factIn s r ≡ none → lengthOf r ≡ 0
 unfolding factIn lengthOf
 no-length s (Announcement n) e = absurd (no-fact _ (sym e))
 no-length s (Trade x) e = absurd (no-fact _ (sym e))

@@ -1,0 +1,73 @@
+-- No normal print is longer than 400 bytes. Assumes nothing.
+use Prim.Native.Nat.{ℕ, _+_, _^_, _≤_, _<_}
+use native.Mathlib.Omega.{arith}
+use mathlib.Core.Path.{_≡_, refl}
+use mathlib.Core.Bool.{Bool, true, false}
+use mathlib.Core.List.{List, [], _++_}
+use lib.ListN.{length, length-append}
+use lib.Dec.{leb}
+use borrow.Author.Tests.{leb-true}
+use Rattle.text.specs.Bytes.{bytes}
+use Rattle.text.specs.Pick.{opt}
+use Rattle.text.proofs.Texts.{and-left, and-right}
+use Rattle.rules.specs.Columns.{between}
+use Rattle.rules.specs.Names.{nameText}
+use Rattle.rules.specs.Side.{sideText}
+use Rattle.rules.specs.Announcement.{modeText, levelText}
+use Rattle.rules.specs.Correction.{repeatsName, endPair, cancelText, correctionText, cancelOpening, errorOpening}
+use Rattle.rules.specs.NormalPrint.{ReadFact, NormalPrint}
+use Rattle.rules.specs.declared.Mode.{Mode}
+use Rattle.rules.specs.declared.Side.{Side}
+use Rattle.trade.proofs.Short.{Short, side-short}
+use Rattle.announced.specs.Announced.{Announced, mode, level}
+use Rattle.announced.proofs.Back.{announced-most}
+use Rattle.symbol.proofs.Text.{name-most}
+use Rattle.compose.specs.Shown.{Showable}
+use Rattle.compose.specs.Printable.{Printable, by-mode, by-level, by-trade, by-cancel, by-error, by-correction}
+use Rattle.compose.proofs.Sides.{below-power, few-decimals, volume-small, days-small, PreviousFits, previous-small, previous-few}
+use Rattle.normal.proofs.Normal.{normal-printable}
+use Rattle.longest.proofs.CancelBack.{pair-short}
+use Rattle.longest.proofs.Longest.{in-range}
+
+module _ (network : ℕ) (x : Side) (h : Showable network x) where
+  shown-short : Short x
+  unfolding PreviousFits
+  shown-short = record {
+    volume-is = omega (arith, volume-small (x .volume) (h .volume-fits));
+    price-is = omega (arith, below-power (x .price .d) (x .price .n) (h .price-fits));
+    decimals-are = few-decimals (x .price .d) (x .price .n) (h .price-fits);
+    days-are = omega (arith, days-small (x .letters .r) (x .days) (h .days-fit));
+    previous-is = omega (arith, previous-small (x .letters .g) (x .previous .n) (x .previous .d) (h .previous-fits));
+    previous-decimals = previous-few (x .letters .g) (x .previous .n) (x .previous .d) (h .previous-fits);
+  }
+
+  -- with a name of at most 22 bytes
+  side-most : (name : List ℕ) (unit : ℕ) → length name ≤ 22 → length (sideText name network unit true true x) ≤ 183
+  side-most name unit l = omega (arith, side-short x shown-short name network unit true true)
+
+  -- the name may be left out
+  again-most : (name : List ℕ) (unit : ℕ) → length name ≤ 22 → (b : Bool) → length (sideText (opt b name) network unit true true x) ≤ 183
+  unfolding opt
+  again-most name unit l true = side-most name unit l
+  again-most name unit l false = side-most [] unit (omega arith)
+
+  cancel-most : (opening : List ℕ) → length opening ≡ 6 → (name : List ℕ) (unit : ℕ) → length name ≤ 22 → length (cancelText opening name network unit true true x) ≤ 191
+  unfolding cancelText
+  cancel-most opening six name unit l = simp length-append (omega (arith, six, side-most name unit l, pair-short x))
+
+correction-most : (network unit : ℕ) (name : List ℕ) (x y : Side) → Showable network x → Showable network y → length name ≤ 22 → length (correctionText name network unit true true x y) ≤ 400
+unfolding correctionText
+correction-most network unit name x y h k l =
+    simp length-append (omega (arith, side-most network x h name unit l, again-most network y k name unit l (repeatsName (y .letters)), pair-short y))
+
+printable-short : {t n : List ℕ} {f : ReadFact} → Printable t n f → length t ≤ 400
+printable-short (by-mode m n h) = let k = in-range 1 100 n h in omega (arith, announced-most (modeText m n) (mode m n (k .0) (k .1) refl))
+printable-short (by-level n h) = let k = in-range 5000 100000 n h in omega (arith, announced-most (levelText n) (level n (k .0) (k .1) refl))
+printable-short (by-trade network unit name x e h) = omega (arith, side-most network x h (nameText true name) unit (name-most true name))
+printable-short (by-cancel network unit name x e h) = omega (arith, cancel-most network x h cancelOpening refl (nameText false name) unit (name-most false name))
+printable-short (by-error network unit name x e h) = omega (arith, cancel-most network x h errorOpening refl (nameText false name) unit (name-most false name))
+printable-short (by-correction network unit name x y e h k) = correction-most network unit (nameText false name) x y h k (name-most false name)
+
+-- A NORMAL PRINT HAS AT MOST 400 BYTES
+pub print-short : {text name : List ℕ} {fact : ReadFact} → NormalPrint text name fact → length text ≤ 400
+print-short p = printable-short (normal-printable p)
