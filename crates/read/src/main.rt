@@ -1,0 +1,138 @@
+// The reader's program (document 01, "Reader"): a tape on standard input, place and length of each print on standard output.
+// Input is read in blocks; prints are read as parts of a block, with 400 bytes of look-ahead while the tape goes on.
+use libc::STDIN_FILENO;
+use libc::STDOUT_FILENO;
+ghost use mathlib.Core.Path.{_≡_};
+ghost use mathlib.Core.Bool.{true, false};
+ghost use Prim.Native.Nat.{_+_, _-_, _≤_, _<_};
+ghost use lib.ListN.{length};
+ghost use Rattle.read.specs.State.{Within, Kept};
+
+// The place on the tape, the part of the block that is not yet read, whether the tape ends with it, and whether there is more
+// to do.
+struct State {
+    place: u64,
+    at: usize,
+    have: usize,
+    ended: bool,
+    going: bool,
+}
+
+fn started() -> State
+    ensures { λ r. ⌜ Within r 0 ⌝ }
+{
+    State {
+        place: 0,
+        at: 0,
+        have: 0,
+        ended: false,
+        going: true,
+    }
+}
+
+// Nothing more is read or written.
+fn stopped() -> State
+    ensures { λ r. ⌜ Within r 0 × (r .going ≡ false) ⌝ }
+{
+    State {
+        place: 0,
+        at: 0,
+        have: 0,
+        ended: true,
+        going: false,
+    }
+}
+
+// What is not yet read goes to the block's front.
+fn to_front(s: State, block: &mut [u8]) -> usize
+    requires { ⌜ Within s (length (now block)) ⌝ }
+    ensures { λ r. ⌜ r ≡ s .have - s .at ⌝ }
+{
+    let at = s.at;
+    let have = s.have;
+    lines::move_front(&mut block[..have], at)
+}
+
+// Reads more behind the first `rest` bytes. The part that is lent has at least one byte, so that none tells the input's end.
+fn fill(block: &mut [u8], rest: usize) -> usize
+    requires { ⌜ rest < length (now block) ⌝ }
+    ensures { λ r. ⌜ rest + r ≤ length (now (block .exit)) ⌝ }
+{
+    let got = libc::read(STDIN_FILENO, &mut block[rest..]);
+    io::count(got, &block[rest..])
+}
+
+// More of the tape, behind what is not yet read; a short read is no end.
+fn read_more(s: State, block: &mut [u8]) -> State
+    requires { ⌜ Within s (length (now block)) × (400 ≤ length (now block)) × (s .have - s .at < 400) ⌝ }
+    ensures { λ r. ⌜ Within r (length (now (block .exit))) ⌝ }
+{
+    let rest = to_front(s, block);
+    let n = fill(block, rest);
+    State {
+        place: s.place,
+        at: 0,
+        have: rest + n,
+        ended: n == 0,
+        going: true,
+    }
+}
+
+// The prints of what is left, as many as may be read and as there is room for, and their lines are written.
+fn read_prints(s: State, block: &[u8], lines: &mut [u8]) -> State
+    requires { ⌜ Within s (length (now block)) × (21 ≤ length (now lines)) ⌝ }
+    ensures { λ r. ⌜ Within r (length (now (block .entry))) × Kept s r ⌝ }
+{
+    let at = s.at;
+    let have = s.have;
+    let r = prints::read_block(&block[at..have], s.place, s.ended, lines);
+    let n = r.written;
+    if !io::write_all(STDOUT_FILENO, &lines[..n]) {
+        return stopped();
+    }
+    if !r.going {
+        return stopped();
+    }
+    State {
+        place: s.place + r.at as u64,
+        at: at + r.at,
+        have: have,
+        ended: s.ended,
+        going: true,
+    }
+}
+
+// One turn: prints are read and their lines written, or the block is filled up; at the tape's end it stops.
+fn turn(s: State, block: &mut [u8], lines: &mut [u8]) -> State
+    requires { ⌜ Within s (length (now block)) × (400 ≤ length (now block)) × (21 ≤ length (now lines)) ⌝ }
+    ensures { λ r. ⌜ Within r (length (now (block .exit))) ⌝ }
+{
+    let r = read_prints(s, block, lines);
+    if !r.going {
+        return r;
+    }
+    if r.at != s.at {
+        return r;
+    }
+    if r.ended {
+        return stopped();
+    }
+    read_more(r, block)
+}
+
+fn run(block: &mut [u8], lines: &mut [u8])
+    requires { ⌜ (400 ≤ length (now block)) × (21 ≤ length (now lines)) ⌝ }
+{
+    let mut s = started();
+    let mut turns = u64::MAX;
+    while 0 < turns && s.going {
+        s = turn(s, block, lines);
+        turns -= 1;
+    }
+}
+
+fn main() {
+    let mut block = [0u8; 262144];
+    let mut lines = [0u8; 65536];
+    run(&mut block, &mut lines);
+}
