@@ -2,11 +2,11 @@
 use Prim.Native.Nat.{ℕ, zero, suc, _+_, _-_, _≤_, _<_}
 use native.Mathlib.Omega.{arith}
 use mathlib.Core.Path.{_≡_, refl, sym, ap, _∙_}
-use mathlib.Core.Bool.{Bool, true, false, _&&_, _||_, not, true≢false}
+use mathlib.Core.Bool.{Bool, true, false, _&&_, _||_, not}
 use mathlib.Core.List.{List, []}
 use lib.Dec.{leb}
 use lib.ListN.{length, drop, length-drop}
-use borrow.Author.Tests.{leb-true, leb-false, le-leb, not-true, not-false}
+use borrow.Author.Tests.{leb-true, not-true, not-false}
 use Rattle.text.specs.Pick.{pick}
 use Rattle.text.specs.Put.{put, Written}
 use Rattle.text.proofs.Texts.{and-left, and-right}
@@ -41,15 +41,6 @@ may-left left room ended h = leb-true 1 left (and-left (leb 1 left) _ h)
 pub may-room : (left room : ℕ) (ended : Bool) → mayRead left ended room ≡ true → 21 ≤ room
 unfolding mayRead
 may-room left room ended h = leb-true 21 room (and-left (leb 21 room) _ (and-right (leb 1 left) _ h))
-
--- where there is room and the tape goes on, only the look-ahead is wanting
-pub may-not : (left room : ℕ) → 21 ≤ room → mayRead left false room ≡ false → left < 400
-unfolding mayRead
-may-not left room l h = go (leb 400 left) refl
-  where
-    go : (b : Bool) → leb 400 left ≡ b → left < 400
-    go true e = absurd (true≢false (sym (rw (le-leb 1 left (omega (arith, leb-true 400 left e)), le-leb 21 room l, e)) ∙ h))
-    go false e = leb-false 400 left e
 
 -- ---- one print more
 

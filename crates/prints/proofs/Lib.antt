@@ -1,3 +1,4 @@
 pub mod One
 pub mod Blocks
 pub mod LookAhead
+pub mod Whole

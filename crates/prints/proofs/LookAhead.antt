@@ -3,7 +3,7 @@ use Prim.Native.Nat.{ℕ, zero, suc, _+_, _-_, _≤_, _<_}
 use native.Mathlib.Nat.{add-assoc, add-zero}
 use native.Mathlib.Omega.{arith}
 use mathlib.Core.Path.{_≡_, refl, sym, ap, _∙_}
-use mathlib.Core.Bool.{Bool, true, false, _&&_, _||_}
+use mathlib.Core.Bool.{Bool, true, false, _&&_, _||_, true≢false}
 use mathlib.Core.List.{List, [], _∷_, _++_, append-assoc, append-nil}
 use lib.Dec.{leb, eqb}
 use lib.ListN.{length, drop, length-append, length-drop}
@@ -143,6 +143,26 @@ module _ (block t : List ℕ) (place : ℕ) (ended : Bool) (alone : ended ≡ tr
       ∙ from-start (leb place 9999999999) refl)
 
 -- ---- where a block's reading ends
+
+-- where there is room, only bytes are wanting
+module _ (left room : ℕ) (fits : 21 ≤ room) where
+  -- the look-ahead
+  pub may-not : mayRead left false room ≡ false → left < 400
+  unfolding mayRead
+  may-not h = go (leb 400 left) refl
+    where
+      go : (b : Bool) → leb 400 left ≡ b → left < 400
+      go true e = absurd (true≢false (sym (rw (le-leb 1 left (omega (arith, leb-true 400 left e)), le-leb 21 room fits, e)) ∙ h))
+      go false e = leb-false 400 left e
+
+  -- or any
+  pub may-none : mayRead left true room ≡ false → left ≡ 0
+  unfolding mayRead
+  may-none h = go (leb 1 left) refl
+    where
+      go : (b : Bool) → leb 1 left ≡ b → left ≡ 0
+      go true e = absurd (true≢false (sym (rw (e, le-leb 21 room fits)) ∙ h))
+      go false e = omega (arith, leb-false 1 left e)
 
 module _ (room : ℕ) (block : List ℕ) (place : ℕ) (ended : Bool) where
   -- what holds where the reading goes on from p

@@ -1,2 +1,3 @@
 pub mod Tape
 pub mod Block
+pub mod Pieces

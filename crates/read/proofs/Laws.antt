@@ -2,19 +2,19 @@
 use Prim.Native.Nat.{ℕ, _+_, _-_, _^_, _≤_, _<_}
 use native.Mathlib.Omega.{arith}
 use mathlib.Core.Path.{_≡_, refl, sym, ap, _∙_}
-use mathlib.Core.Bool.{Bool, true, false, not}
-use mathlib.Core.List.{List}
+use mathlib.Core.Bool.{Bool, true, false, not, true≢false}
+use mathlib.Core.List.{List, _++_, append-assoc}
 use mir.Val.{Fits}
 use mir.Syntax.{w64}
-use lib.ListN.{length, take, drop, length-take, length-drop}
-use lib.Seq.{length-take-le}
+use lib.ListN.{length, take, drop, length-drop}
+use lib.Seq.{length-take-le, take-at, take-take}
 use borrow.Author.Tests.{not-false}
-use Rattle.text.specs.Put.{Written}
+use Rattle.text.specs.Put.{put, Written}
 use Rattle.prints.specs.declared.Reading.{Reading}
 use Rattle.prints.specs.Block.{mayRead, blockRead, Stands}
-use Rattle.prints.proofs.Blocks.{may-not, lines-length}
-use Rattle.prints.proofs.LookAhead.{block-within, block-placed, block-moves}
-use Rattle.read.specs.State.{Within, Kept}
+use Rattle.prints.proofs.Blocks.{lines-length}
+use Rattle.prints.proofs.LookAhead.{may-not, may-none, block-within, block-placed, block-moves}
+use Rattle.read.specs.State.{Within, unread, Kept}
 use Rattle.read.specs.declared.State.{State}
 
 -- a block in which a place stands
@@ -22,8 +22,21 @@ pub had : (s : State) (xs : List ℕ) → Within s (length xs) → s .have ≡ l
 had s xs w = sym (length-take-le (s .have) xs (w .to-end))
 
 -- what was moved to the front is what was not yet read
-pub fronted : (s : State) (xs ys : List ℕ) (r : ℕ) → Within s (length xs) → Written (drop (s .at) (take (s .have) xs)) (take (s .have) xs) ys r → r ≡ s .have - s .at
-fronted s xs ys r w v = omega (arith, v .count-is, length-drop (s .at) (take (s .have) xs), had s xs w)
+module _ (s : State) (xs ys : List ℕ) (r : ℕ) (v : Written (unread s xs) (take (s .have) xs) ys r) where
+  pub fronted : Within s (length xs) → r ≡ s .have - s .at
+  fronted w = omega (arith, v .count-is, length-drop (s .at) (take (s .have) xs), had s xs w)
+
+  pub front-is : take r (ys ++ drop (s .have) xs) ≡ unread s xs
+  unfolding put
+  front-is = rw (v .tape, append-assoc) (take-at (unread s xs) (drop (length (unread s xs)) (take (s .have) xs) ++ drop (s .have) xs) r (sym (v .count-is)))
+
+-- what stands before a part that is lent
+pub before-same : (xs ys : List ℕ) (n : ℕ) → n < length xs → take n (take n xs ++ ys) ≡ take n xs
+before-same xs ys n h = take-at (take n xs) ys n (length-take-le n xs (omega arith))
+
+-- it is kept before the bytes that are read more
+pub more-kept : (s : State) (b₀ b₁ b₂ : List ℕ) (rest n : ℕ) → rest ≡ s .have - s .at → take rest b₁ ≡ unread s b₀ → take rest b₂ ≡ take rest b₁ → take (s .have - s .at) (take (rest + n) b₂) ≡ unread s b₀
+more-kept s b₀ b₁ b₂ rest n e f g = rw (← e) (take-take rest (rest + n) b₂ (omega arith) ∙ (g ∙ f))
 
 -- ---- after a reading of what stands between two places
 
@@ -52,14 +65,36 @@ module _ (s : State) (block lines₀ lines : List ℕ) (r : Reading) (w : Within
   pub next-within : (have : ℕ) → have ≡ s .have → (place : ℕ) (ended going : Bool) → Within (record { place = place; at = s .at + r .at; have = have; ended = ended; going = going }) (length block)
   next-within have e place ended going = record { from-to = omega (arith, next-place); to-end = omega (arith, w .to-end) }
 
-  -- prints were read, or the look-ahead is wanting
-  pub next-kept : (have : ℕ) → have ≡ s .have → (place : ℕ) → 21 ≤ length lines₀ → not (r .going) ≡ false → Kept s (record { place = place; at = s .at + r .at; have = have; ended = s .ended; going = true })
-  next-kept have e place l g on at last = go (mayRead (length part) (s .ended) (length lines₀)) refl
-    where
-      go : (b : Bool) → mayRead (length part) (s .ended) (length lines₀) ≡ b → have - (s .at + r .at) < 400
-      go true h = absurd (omega (arith, at, read .at-is, block-moves (length lines₀) part (s .place) (s .ended) h (sym (read .going-is) ∙ not-false (r .going) g)))
-      go false h = omega (arith, part-length, may-not (length part) (length lines₀) l (ap (λ b. mayRead (length part) b (length lines₀)) (sym last) ∙ h))
+  module _ (have : ℕ) (same : have ≡ s .have) (room : 21 ≤ length lines₀) (going : not (r .going) ≡ false) where
+    -- no print was read
+    still : (b : Bool) → s .ended ≡ b → s .at + r .at ≡ s .at → mayRead (length part) b (length lines₀) ≡ false
+    still b e at = go (mayRead (length part) (s .ended) (length lines₀)) refl
+      where
+        go : (c : Bool) → mayRead (length part) (s .ended) (length lines₀) ≡ c → mayRead (length part) b (length lines₀) ≡ false
+        go true h = absurd (omega (arith, at, read .at-is, block-moves (length lines₀) part (s .place) (s .ended) h (sym (read .going-is) ∙ not-false (r .going) going)))
+        go false h = ap (λ d. mayRead (length part) d (length lines₀)) (sym e) ∙ h
 
--- fewer than 400 bytes are left where no print was read
-pub few-left : (s r : State) → Kept s r → not (r .going) ≡ false → r .at ≡ s .at → r .ended ≡ false → r .have - r .at < 400
-few-left s r k g e h = k (not-false (r .going) g) e h
+    pub next-kept : Kept s (record { place = s .place + r .at; at = s .at + r .at; have = have; ended = s .ended; going = true })
+    next-kept = record {
+      placed = λ g. omega arith;
+      few = λ g at e. omega (arith, part-length, may-not (length part) (length lines₀) room (still false e at));
+      none = λ g at e. omega (arith, part-length, may-none (length part) (length lines₀) room (still true e at));
+    }
+
+-- ---- from turn to turn
+
+pub stopped-kept : (s r : State) → r .going ≡ false → Kept s r
+stopped-kept s r h = record {
+  placed = λ g. absurd (true≢false (sym g ∙ h));
+  few = λ g at e. absurd (true≢false (sym g ∙ h));
+  none = λ g at e. absurd (true≢false (sym g ∙ h));
+}
+
+module _ (s r : State) (k : Kept s r) (g : not (r .going) ≡ false) (at : r .at ≡ s .at) where
+  -- fewer than 400 bytes are left where no print was read
+  pub few-left : r .ended ≡ false → r .have - r .at < 400
+  few-left e = k .few (not-false (r .going) g) at e
+
+  -- none at the tape's end
+  pub none-left : r .ended ≡ true → r .have ≤ r .at
+  none-left e = k .none (not-false (r .going) g) at e

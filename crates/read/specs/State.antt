@@ -1,7 +1,9 @@
 -- Where the program stands in its block. Assumes nothing.
-use Prim.Native.Nat.{ℕ, _-_, _≤_, _<_}
+use Prim.Native.Nat.{ℕ, _+_, _-_, _≤_, _<_}
 use mathlib.Core.Path.{_≡_}
 use mathlib.Core.Bool.{true, false}
+use mathlib.Core.List.{List}
+use lib.ListN.{take, drop}
 use Rattle.read.specs.declared.State.{State}
 
 -- the part that is not yet read lies in a block of n bytes
@@ -9,6 +11,12 @@ pub record Within (s : State) (n : ℕ) : Type 0 where
   pub from-to : s .at ≤ s .have
   pub to-end : s .have ≤ n
 
--- from s to r prints were read, or fewer than 400 bytes are left, unless the tape ends with them
-abbrev pub Kept : State → State → Type 0
-Kept s r = r .going ≡ true → r .at ≡ s .at → r .ended ≡ false → r .have - r .at < 400
+-- it: of the first `have` bytes of a block those from `at` on
+abbrev pub unread : State → List ℕ → List ℕ
+unread s block = drop (s .at) (take (s .have) block)
+
+-- where prints were read from s to r and there is more to do: the place has moved on with the block's; where no print was read, fewer than 400 bytes are left, and none if the tape ends with them
+pub record Kept (s r : State) : Type 0 where
+  pub placed : r .going ≡ true → r .place + s .at ≡ s .place + r .at
+  pub few : r .going ≡ true → r .at ≡ s .at → r .ended ≡ false → r .have - r .at < 400
+  pub none : r .going ≡ true → r .at ≡ s .at → r .ended ≡ true → r .have ≤ r .at

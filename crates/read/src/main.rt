@@ -5,8 +5,8 @@ use libc::STDOUT_FILENO;
 ghost use mathlib.Core.Path.{_≡_};
 ghost use mathlib.Core.Bool.{true, false};
 ghost use Prim.Native.Nat.{_+_, _-_, _≤_, _<_};
-ghost use lib.ListN.{length};
-ghost use Rattle.read.specs.State.{Within, Kept};
+ghost use lib.ListN.{length, take};
+ghost use Rattle.read.specs.State.{Within, unread, Kept};
 
 // The place on the tape, the part of the block that is not yet read, whether the tape ends with it, and whether there is more
 // to do.
@@ -43,10 +43,18 @@ fn stopped() -> State
     }
 }
 
+// The tape is read to its end: no byte is left.
+fn over(s: State) -> State
+    requires { ⌜ s .have ≤ s .at ⌝ }
+    ensures { λ r. ⌜ Within r 0 ⌝ }
+{
+    stopped()
+}
+
 // What is not yet read goes to the block's front.
 fn to_front(s: State, block: &mut [u8]) -> usize
     requires { ⌜ Within s (length (now block)) ⌝ }
-    ensures { λ r. ⌜ r ≡ s .have - s .at ⌝ }
+    ensures { λ r. ⌜ (r ≡ s .have - s .at) × (take r (now (block .exit)) ≡ unread s (now (block .entry))) ⌝ }
 {
     let at = s.at;
     let have = s.have;
@@ -56,7 +64,7 @@ fn to_front(s: State, block: &mut [u8]) -> usize
 // Reads more behind the first `rest` bytes. The part that is lent has at least one byte, so that none tells the input's end.
 fn fill(block: &mut [u8], rest: usize) -> usize
     requires { ⌜ rest < length (now block) ⌝ }
-    ensures { λ r. ⌜ rest + r ≤ length (now (block .exit)) ⌝ }
+    ensures { λ r. ⌜ (rest + r ≤ length (now (block .exit))) × (take rest (now (block .exit)) ≡ take rest (now (block .entry))) ⌝ }
 {
     let got = libc::read(STDIN_FILENO, &mut block[rest..]);
     io::count(got, &block[rest..])
@@ -65,7 +73,7 @@ fn fill(block: &mut [u8], rest: usize) -> usize
 // More of the tape, behind what is not yet read; a short read is no end.
 fn read_more(s: State, block: &mut [u8]) -> State
     requires { ⌜ Within s (length (now block)) × (400 ≤ length (now block)) × (s .have - s .at < 400) ⌝ }
-    ensures { λ r. ⌜ Within r (length (now (block .exit))) ⌝ }
+    ensures { λ r. ⌜ Within r (length (now (block .exit))) × (r .place ≡ s .place) × (take (s .have - s .at) (unread r (now (block .exit))) ≡ unread s (now (block .entry))) ⌝ }
 {
     let rest = to_front(s, block);
     let n = fill(block, rest);
@@ -115,7 +123,7 @@ fn turn(s: State, block: &mut [u8], lines: &mut [u8]) -> State
         return r;
     }
     if r.ended {
-        return stopped();
+        return over(r);
     }
     read_more(r, block)
 }

@@ -1,4 +1,4 @@
-use Rattle.read.proofs.Laws.{lines-front, next-fits, place-fits, next-within, next-kept}
+use Rattle.read.proofs.Laws.{lines-front, next-fits, place-fits, next-within, next-kept, stopped-kept}
 use borrow.Author.Needs.{needs}
 use Rattle.read.proofs.read_prints.Statement.{statement}
 use Rattle.read.proofs.read_prints.Tie as tie
@@ -31,7 +31,7 @@ same-length : tie.Need-same-length
 same-length c = search needs
 
 returns : tie.Need-returns
-returns c = search needs
+returns c = (search needs, search stopped-kept)
 
 stopped-requires-2 : tie.Need-stopped-requires-2
 stopped-requires-2 c κs = search needs
@@ -40,7 +40,7 @@ same-length-2 : tie.Need-same-length-2
 same-length-2 c = search needs
 
 returns-2 : tie.Need-returns-2
-returns-2 c = search needs
+returns-2 c = (search needs, search stopped-kept)
 
 add-t19 : tie.Need-add-t19
 add-t19 c = search place-fits

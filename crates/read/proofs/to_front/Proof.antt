@@ -1,4 +1,4 @@
-use Rattle.read.proofs.Laws.{had, fronted}
+use Rattle.read.proofs.Laws.{had, fronted, front-is}
 use borrow.Author.Needs.{needs}
 use Rattle.read.proofs.to_front.Statement.{statement}
 use Rattle.read.proofs.to_front.Tie as tie
@@ -16,7 +16,7 @@ same-length : tie.Need-same-length
 same-length c = search needs
 
 returns : tie.Need-returns
-returns c = search fronted
+returns c = (search fronted, search front-is)
 
 pub to-front-spec : {M : Type 1} → statement M
 to-front-spec =

@@ -1,4 +1,4 @@
-use Rattle.read.proofs.Laws.{few-left}
+use Rattle.read.proofs.Laws.{few-left, none-left}
 use borrow.Author.Needs.{needs}
 use Rattle.read.proofs.turn.Statement.{statement}
 use Rattle.read.proofs.turn.Tie as tie
@@ -24,8 +24,8 @@ same-length-4 c = search needs
 returns-2 : tie.Need-returns-2
 returns-2 c = search needs
 
-stopped-requires : tie.Need-stopped-requires
-stopped-requires c κs = search needs
+over-requires : tie.Need-over-requires
+over-requires c κs = search none-left
 
 same-length-5 : tie.Need-same-length-5
 same-length-5 c = search needs
@@ -59,7 +59,7 @@ turn-spec =
     same-length-3
     same-length-4
     returns-2
-    stopped-requires
+    over-requires
     same-length-5
     same-length-6
     returns-3
