@@ -14,7 +14,7 @@ use Rattle.text.proofs.Texts.{and-left, and-right}
 use Rattle.reader.specs.Read.{printAt, readAt}
 use Rattle.reader.specs.Told.{lengthOf}
 use Rattle.short.proofs.Ahead.{ahead}
-use Rattle.prints.specs.Tape.{lineOf, printsFrom, readFrom, readText}
+use Rattle.prints.specs.Tape.{lineOf, printsFrom, readFrom}
 use Rattle.prints.specs.Block.{Progress, started, printRead, mayRead, blockFrom, blockRead}
 use Rattle.prints.proofs.Blocks.{from-zero, from-on, from-off, may-left, read-within, at-further, on-some, on-place}
 

@@ -1,7 +1,7 @@
 -- One print: its line, and where the reading stands behind it. Assumes nothing.
-use Prim.Native.Nat.{ℕ, _+_, _-_, _^_, _≤_, _<_}
+use Prim.Native.Nat.{ℕ, _+_, _-_, _≤_}
 use native.Mathlib.Omega.{arith}
-use mathlib.Core.Path.{_≡_, refl, sym, ap, _∙_}
+use mathlib.Core.Path.{_≡_, ap, _∙_}
 use mathlib.Core.Bool.{Bool, _&&_}
 use mathlib.Core.List.{List, _++_}
 use lib.Dec.{leb}
@@ -10,14 +10,13 @@ use mir.Val.{Fits}
 use mir.Syntax.{w64}
 use Rattle.text.specs.Put.{Written}
 use Rattle.text.proofs.Writing.{then}
-use Rattle.right.specs.Justified.{right}
 use Rattle.right.proofs.Writes.{length-right}
 use Rattle.reader.specs.declared.ReadAnswer.{ReadAnswer}
-use Rattle.reader.specs.Read.{printAt, readAt}
+use Rattle.reader.specs.Read.{readAt}
 use Rattle.reader.specs.Told.{lengthOf}
 use Rattle.short.proofs.Ahead.{read-short}
 use Rattle.prints.specs.Tape.{lineOf}
-use Rattle.prints.specs.Block.{Progress, printRead, Stands, Steps}
+use Rattle.prints.specs.Block.{printRead, Steps}
 use Rattle.prints.specs.declared.Reading.{Reading}
 
 -- 21 bytes

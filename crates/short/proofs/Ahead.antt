@@ -2,7 +2,7 @@
 use Prim.Native.Nat.{ℕ, _+_, _≤_}
 use native.Mathlib.Omega.{arith}
 use mathlib.Core.Path.{_≡_, refl, sym, ap, _∙_, subst}
-use mathlib.Core.List.{List, [], _∷_, _++_, append-assoc}
+use mathlib.Core.List.{List, [], _++_, append-assoc}
 use mathlib.Core.Option.{Option, none, some}
 use lib.ListN.{length, take, drop, take-append-drop}
 use lib.Seq.{length-take-le, take-append-le}
@@ -11,7 +11,7 @@ use Rattle.reader.specs.declared.ReadAnswer.{ReadAnswer}
 use Rattle.reader.specs.declared.ReadAnswer.the-variants.{Announcement, Trade, Cancel, Error, Correction, Refused}
 use Rattle.reader.specs.Read.{printAt, readAt}
 use Rattle.reader.specs.Told.{lengthOf, nameLength, nameIn, nameAt, factIn}
-use Rattle.reader.proofs.Bounds.{Within, print-within}
+use Rattle.reader.proofs.Bounds.{print-within}
 use Rattle.longest.proofs.Longest.{no-fact, no-length, longest-print}
 use Rattle.longest.proofs.Determined.{determined}
 use Rattle.short.proofs.Short.{print-short}

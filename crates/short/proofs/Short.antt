@@ -1,25 +1,19 @@
 -- No normal print is longer than 400 bytes. Assumes nothing.
-use Prim.Native.Nat.{ℕ, _+_, _^_, _≤_, _<_}
+use Prim.Native.Nat.{ℕ, _≤_}
 use native.Mathlib.Omega.{arith}
 use mathlib.Core.Path.{_≡_, refl}
 use mathlib.Core.Bool.{Bool, true, false}
-use mathlib.Core.List.{List, [], _++_}
+use mathlib.Core.List.{List, []}
 use lib.ListN.{length, length-append}
-use lib.Dec.{leb}
-use borrow.Author.Tests.{leb-true}
-use Rattle.text.specs.Bytes.{bytes}
 use Rattle.text.specs.Pick.{opt}
-use Rattle.text.proofs.Texts.{and-left, and-right}
-use Rattle.rules.specs.Columns.{between}
 use Rattle.rules.specs.Names.{nameText}
 use Rattle.rules.specs.Side.{sideText}
 use Rattle.rules.specs.Announcement.{modeText, levelText}
-use Rattle.rules.specs.Correction.{repeatsName, endPair, cancelText, correctionText, cancelOpening, errorOpening}
+use Rattle.rules.specs.Correction.{repeatsName, cancelText, correctionText, cancelOpening, errorOpening}
 use Rattle.rules.specs.NormalPrint.{ReadFact, NormalPrint}
-use Rattle.rules.specs.declared.Mode.{Mode}
 use Rattle.rules.specs.declared.Side.{Side}
 use Rattle.trade.proofs.Short.{Short, side-short}
-use Rattle.announced.specs.Announced.{Announced, mode, level}
+use Rattle.announced.specs.Announced.{mode, level}
 use Rattle.announced.proofs.Back.{announced-most}
 use Rattle.symbol.proofs.Text.{name-most}
 use Rattle.compose.specs.Shown.{Showable}

@@ -1,6 +1,4 @@
 -- The loop's invariant: going on from here leads where the whole block leads. Assumes nothing.
-use Prim.Native.Nat.{_-_}
-use lib.ListN.{length}
 use Rattle.prints.proofs.Blocks.{Here, left, here-start, here-end, here-stop, here-placed, here-room, here-less, here-on}
 use borrow.Author.Needs.{needs}
 use Rattle.prints.proofs.read_block.Statement.{statement}

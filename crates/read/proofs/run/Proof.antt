@@ -1,6 +1,5 @@
 -- The loop's invariant: what is not yet read lies in the block. The measure is the number of turns that are left. Assumes nothing.
-use native.Mathlib.Omega.{arith}
-use mathlib.Core.Path.{_≡_, refl}
+use mathlib.Core.Path.{_≡_}
 use lib.ListN.{length}
 use Rattle.read.specs.State.{Within}
 use borrow.Author.Needs.{needs}
