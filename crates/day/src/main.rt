@@ -73,7 +73,7 @@ fn to_front(s: State, block: &mut [u8]) -> usize
 {
     let at = s.at;
     let have = s.have;
-    lines::move_front(&mut block[..have], at)
+    blocks::move_front(&mut block[..have], at)
 }
 
 // Reads more behind it.
@@ -98,7 +98,7 @@ fn pass(s: State, block: &mut [u8]) -> State
 {
     let at = s.at;
     let have = s.have;
-    let end = lines::line_end(&block[..have], at);
+    let end = blocks::line_end(&block[..have], at);
     let mut r = s;
     if end < have {
         r.at = end + 1;

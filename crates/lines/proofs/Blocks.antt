@@ -12,10 +12,10 @@ use borrow.Author.Tests.{leb-true, not-true, not-false}
 use Rattle.text.specs.Put.{put, Written}
 use Rattle.text.proofs.Writing.{written-nothing, length-put}
 use Rattle.rules.specs.declared.Settings.{Settings}
-use Rattle.lines.specs.Lines.{lineEnd, cut}
+use Rattle.blocks.specs.Lines.{lineEnd, cut}
 use Rattle.lines.specs.Feed.{Progress, started, carried, lineTaken, roomLeft, linesTaken, blockTaken, Stands, Steps}
 use Rattle.lines.specs.declared.Fed.{Fed}
-use Rattle.lines.proofs.Cuts.{end-after, next-line, no-line}
+use Rattle.blocks.proofs.Cuts.{end-after, next-line, no-line}
 
 -- ---- the two equations of `linesTaken`
 

@@ -11,12 +11,12 @@ use lib.Seq.{take-at, drop-at}
 use borrow.Author.Tests.{eqb-true, eqb-false}
 use Rattle.text.specs.Put.{Written}
 use Rattle.rules.specs.declared.Settings.{Settings}
-use Rattle.lines.specs.Lines.{lineLength, Cut, after, led, cut, lastLine, linesOf}
+use Rattle.blocks.specs.Lines.{lineLength, Cut, after, led, cut, lastLine, linesOf}
 use Rattle.lines.specs.Feed.{Progress, started, told, carried, lineTaken, roomLeft, linesTaken, blockTaken, Stands}
 use Rattle.lines.specs.Handed.{handed, waiting, allTaken, turnOf, printAt, printsOf, toldOf, unlines}
 use Rattle.lines.specs.declared.Fed.{Fed}
-use Rattle.lines.proofs.Scan.{length-feed, length-other}
-use Rattle.lines.proofs.Cuts.{cut-feed, cut-other}
+use Rattle.blocks.proofs.Scan.{length-feed, length-other}
+use Rattle.blocks.proofs.Cuts.{cut-feed, cut-other}
 use Rattle.lines.proofs.Blocks.{taken-on, taken-off}
 
 -- ---- bytes and their pieces

@@ -14,7 +14,7 @@ use Rattle.engine.specs.declared.Outcome.the-variants.{Accepted, Refused}
 use Rattle.engine.specs.Taken.{asked, outcomeOf}
 use Rattle.planprint.specs.Print.{printOf}
 use Rattle.planstate.specs.After.{settingsAfter, tableAfter, namesAfter}
-use Rattle.lines.specs.Lines.{cut}
+use Rattle.blocks.specs.Lines.{cut}
 use Rattle.lines.specs.Refusals.{refusalLine}
 use Rattle.lines.specs.declared.Fed.{Fed}
 

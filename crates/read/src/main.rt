@@ -58,7 +58,7 @@ fn to_front(s: State, block: &mut [u8]) -> usize
 {
     let at = s.at;
     let have = s.have;
-    lines::move_front(&mut block[..have], at)
+    blocks::move_front(&mut block[..have], at)
 }
 
 // Reads more behind the first `rest` bytes. The part that is lent has at least one byte, so that none tells the input's end.

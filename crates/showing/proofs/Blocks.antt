@@ -10,8 +10,8 @@ use borrow.Author.Tests.{le-leb, lt-leb}
 use Rattle.text.specs.Put.{put, Written}
 use Rattle.text.proofs.Writing.{written-nothing, length-put}
 use Rattle.rules.specs.declared.Settings.{Settings}
-use Rattle.lines.specs.Lines.{lineEnd, cut}
-use Rattle.lines.proofs.Cuts.{end-after, next-line, no-line}
+use Rattle.blocks.specs.Lines.{lineEnd, cut}
+use Rattle.blocks.proofs.Cuts.{end-after, next-line, no-line}
 use Rattle.showing.specs.Shows.{Progress, started, lineShown, linesShown, blockShown, Stands, Steps}
 use Rattle.showing.specs.declared.Shown.{Shown}
 

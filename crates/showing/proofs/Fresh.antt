@@ -19,7 +19,7 @@ use Rattle.calls.proofs.Early.{Early, early-asked, same-asked}
 use Rattle.facts.specs.Entry.{factIn, planFact}
 use Rattle.facts.specs.declared.Entry.the-variants.{Silent}
 use Rattle.facts.proofs.Agree.{told}
-use Rattle.lines.specs.Lines.{cut}
+use Rattle.blocks.specs.Lines.{cut}
 use Rattle.showing.specs.Shows.{started, blockShown}
 use Rattle.showing.specs.Whole.{callsOf, shownText}
 use Rattle.showing.proofs.Whole.{block-shown}

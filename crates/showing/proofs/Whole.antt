@@ -9,7 +9,7 @@ use Rattle.rules.specs.Day.{Day, Call, after}
 use Rattle.rules.specs.Shown.{Fact, entries, shownBy, shown}
 use Rattle.rules.specs.declared.Settings.{Settings}
 use Rattle.table.specs.Rows.{dayOf}
-use Rattle.lines.specs.Lines.{cut}
+use Rattle.blocks.specs.Lines.{cut}
 use Rattle.factline.specs.Lines.{lineOf}
 use Rattle.showing.specs.Shows.{call, Progress, started, lineShown, linesShown, blockShown}
 use Rattle.showing.specs.Whole.{factsText, callsOf, shownText}

@@ -10,7 +10,7 @@ use Rattle.rules.specs.Day.{Day, Call, after}
 use Rattle.rules.specs.Shown.{shownBy}
 use Rattle.rules.specs.declared.Settings.{Settings}
 use Rattle.table.specs.Rows.{dayOf}
-use Rattle.lines.specs.Lines.{cut}
+use Rattle.blocks.specs.Lines.{cut}
 use Rattle.factline.specs.Lines.{lineOf}
 use Rattle.showing.specs.declared.Told.{Told}
 use Rattle.showing.specs.declared.Shown.{Shown}

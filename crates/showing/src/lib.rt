@@ -97,14 +97,14 @@ pub fn show_lines(
         at: 0,
         facts: 0,
     };
-    let mut end = lines::line_end(block, 0);
+    let mut end = blocks::line_end(block, 0);
     while end < block.len() {
         if facts.len() - s.facts < 386 {
             return s;
         }
         s = show_line(s, table, names, block, end, facts);
         let at = s.at;
-        end = lines::line_end(block, at);
+        end = blocks::line_end(block, at);
     }
     s
 }

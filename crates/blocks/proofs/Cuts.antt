@@ -10,8 +10,8 @@ use lib.ListN.{length, take, drop, length-drop, length-append}
 use lib.Seq.{drop-drop}
 use borrow.Author.Tests.{eqb-true, eqb-false, eq-eqb, ne-eqb}
 use Rattle.text.specs.Pick.{pick}
-use Rattle.lines.specs.Lines.{lineLength, lineEnd, Cut, after, led, cut, lastLine, linesOf}
-use Rattle.lines.proofs.Scan.{length-feed, length-other}
+use Rattle.blocks.specs.Lines.{lineLength, lineEnd, Cut, after, led, cut, lastLine, linesOf}
+use Rattle.blocks.proofs.Scan.{length-feed, length-other}
 
 pub cut-feed : (c : ℕ) (s : List ℕ) → c ≡ 10 → cut (c ∷ s) ≡ after [] (cut s)
 unfolding cut pick

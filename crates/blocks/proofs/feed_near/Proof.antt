@@ -3,11 +3,11 @@ use Prim.Native.Nat.{_+_, _-_, _≤_}
 use native.Mathlib.Omega.{arith}
 use mathlib.Core.Path.{_≡_, refl}
 use mathlib.Core.Logic.{⊎-elim}
-use Rattle.lines.specs.Lines.{lineEnd}
-use Rattle.lines.proofs.Scan.{near-start, near-seen, near-on, near-all}
+use Rattle.blocks.specs.Lines.{lineEnd}
+use Rattle.blocks.proofs.Scan.{near-start, near-seen, near-on, near-all}
 use borrow.Author.Needs.{needs}
-use Rattle.lines.proofs.feed_near.Statement.{statement}
-use Rattle.lines.proofs.feed_near.Tie as tie
+use Rattle.blocks.proofs.feed_near.Statement.{statement}
+use Rattle.blocks.proofs.feed_near.Tie as tie
 
 abbrev Inv-loop : tie.InvT-loop
 Inv-loop block from near₀ i₀ near i = (i ≤ 100) × (near ≡ 0 → lineEnd block (from + i) ≡ lineEnd block from)

@@ -11,7 +11,7 @@ use borrow.Author.Tests.{eq-eqb, ne-eqb}
 use Rattle.text.specs.Pick.{pick}
 use Rattle.text.specs.Put.{put, Written}
 use Rattle.text.proofs.Writing.{store}
-use Rattle.lines.specs.Lines.{lineLength, lineEnd}
+use Rattle.blocks.specs.Lines.{lineLength, lineEnd}
 
 pub length-feed : (c : ℕ) (s : List ℕ) → c ≡ 10 → lineLength (c ∷ s) ≡ 0
 unfolding lineLength pick
