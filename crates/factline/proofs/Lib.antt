@@ -1,3 +1,2 @@
-pub mod Trims
 pub mod Lines
 pub mod Short

@@ -1,13 +1,8 @@
 -- What each case of an entry writes, in the form of the code's needs. Assumes nothing.
-use Prim.Native.Nat.{ℕ, suc, _≤_}
-use native.Mathlib.Omega.{arith}
-use mathlib.Core.Path.{_≡_, refl, sym, ap, _∙_}
-use mathlib.Core.Bool.{Bool, true, false}
-use mathlib.Core.List.{List, [], _∷_, _++_}
-use mathlib.Core.Option.{Option, none, some}
-use lib.ListN.{length, drop}
+use Prim.Native.Nat.{ℕ}
+use mathlib.Core.Path.{_≡_}
+use mathlib.Core.List.{List, []}
 use Rattle.text.specs.Bytes.{bytes}
-use Rattle.text.specs.Put.{put, Written}
 use Rattle.facts.specs.Entry.{conditionsIn, partIn, volumeIn, factIn}
 use Rattle.facts.specs.declared.Conditions.{Conditions}
 use Rattle.facts.specs.declared.Part.{Part}
@@ -18,59 +13,18 @@ use Rattle.facts.specs.declared.TradeEntry.{TradeEntry}
 use Rattle.facts.specs.declared.Entry.{Entry}
 use Rattle.facts.specs.declared.Entry.the-variants.{Silent, Announced, Traded, Cancelled, Erred, Corrected}
 use Rattle.text.specs.Decimal.{decimal}
-use Rattle.text.proofs.Writing.{length-put}
-use Rattle.factline.specs.Lines.{orNone, conditionsText, fullText, partText, volumeText, tradeText, amendedText, correctionText, announcedText, factLine, lineOf}
-
--- ---- a set that may have no letter
-
-no-bytes : (t : List ℕ) → 0 ≡ length t → t ≡ []
-no-bytes [] e = refl
-no-bytes (c ∷ s) e = absurd (omega (arith, e))
-
-module _ (t : List ℕ) where
-  pub set-room : (m : ℕ) → length (orNone t) ≤ m → length t ≤ m
-  unfolding orNone
-  set-room m h = go t h
-    where
-      go : (t : List ℕ) → length (orNone t) ≤ m → length t ≤ m
-      go [] h = omega arith
-      go (c ∷ s) h = h
-
-  module _ (b a : List ℕ) (n : ℕ) (w : Written t b a n) where
-    nothing : n ≡ 0 → t ≡ []
-    nothing e = no-bytes t (sym e ∙ w .count-is)
-
-    untouched : n ≡ 0 → a ≡ b
-    unfolding put
-    untouched e = w .tape ∙ ap (λ (s : List ℕ). put s b) (nothing e)
-
-    pub set-none-room : n ≡ 0 → length (orNone t) ≤ length b → 1 ≤ length a
-    unfolding orNone
-    set-none-room e h = let z = nothing e in let q : 1 ≤ length b = rw z at h in rw (untouched e) q
-
-    pub set-none : (a′ : List ℕ) (k : ℕ) → n ≡ 0 → Written (bytes "-") a a′ k → Written (orNone t) b a′ k
-    unfolding orNone
-    set-none a′ k e v = rw (nothing e) (rw (untouched e) at v)
-
-    pub set-some : (n ≡ 0 → ⊥) → Written (orNone t) b a n
-    unfolding orNone
-    set-some z = go t w
-      where
-        go : (t : List ℕ) → Written t b a n → Written (orNone t) b a n
-        go [] v = absurd (z (v .count-is))
-        go (c ∷ s) v = v
-
-pub ruleset sets = (set-room, set-none-room, set-none, set-some)
+use Rattle.factside.specs.Sides.{conditionsWith, conditionsText, fullText}
+use Rattle.factline.specs.Lines.{partText, volumeText, tradeText, amendedText, correctionText, announcedText, factLine, lineOf}
 
 -- ---- a side, a volume
 
 module _ (x : Part) where
-  pub part-full : (price : ℕ) (c : Conditions) (volume : ℕ) → x ≡ Full price c volume → partText (partIn x) ≡ fullText price (conditionsIn c) volume
-  unfolding partText partIn
+  pub part-full : (price : ℕ) (c : Conditions) (volume : ℕ) → x ≡ Full price c volume → partText (partIn x) ≡ fullText price (conditionsWith (c .letters) (c .days) (c .previous)) volume
+  unfolding partText partIn conditionsIn
   part-full price c volume e = rw e
 
-  pub part-bare : (c : Conditions) → x ≡ Bare c → partText (partIn x) ≡ conditionsText (conditionsIn c)
-  unfolding partText partIn
+  pub part-bare : (c : Conditions) → x ≡ Bare c → partText (partIn x) ≡ conditionsText (conditionsWith (c .letters) (c .days) (c .previous))
+  unfolding partText partIn conditionsIn
   part-bare c e = rw e
 
 module _ (v : Volume) where

@@ -4,25 +4,12 @@ use borrow.Author.Needs.{needs}
 use Rattle.factline.proofs.write_amended.Statement.{statement}
 use Rattle.factline.proofs.write_amended.Tie as tie
 
-write-bytes-requires : tie.Need-write-bytes-requires
+slice-aggregate-write-sided : tie.Need-slice-aggregate-write-sided
+slice-aggregate-write-sided c = search needs
+
+write-sided-requires : tie.Need-write-sided-requires
 unfolding amendedText
-write-bytes-requires c κs = search rooms depth 24
-
-sub-write-decimal : tie.Need-sub-write-decimal
-sub-write-decimal c = search needs
-
-part-write-decimal-start : tie.Need-part-write-decimal-start
-part-write-decimal-start c = search needs
-
-part-write-decimal-end : tie.Need-part-write-decimal-end
-part-write-decimal-end c = search needs
-
-write-decimal-requires : tie.Need-write-decimal-requires
-unfolding amendedText
-write-decimal-requires c κs = search rooms depth 24
-
-add-j : tie.Need-add-j
-add-j c = search needs
+write-sided-requires c κs = search rooms depth 24
 
 sub-write-bytes : tie.Need-sub-write-bytes
 sub-write-bytes c = search needs
@@ -36,44 +23,9 @@ part-write-bytes-end c = search needs
 slice-aggregate-write-bytes : tie.Need-slice-aggregate-write-bytes
 slice-aggregate-write-bytes c = search needs
 
-write-bytes-requires-2 : tie.Need-write-bytes-requires-2
+write-bytes-requires : tie.Need-write-bytes-requires
 unfolding amendedText
-write-bytes-requires-2 c κs = search rooms depth 24
-
-add-k : tie.Need-add-k
-add-k c = search needs
-
-sub-write-part : tie.Need-sub-write-part
-sub-write-part c = search needs
-
-part-write-part-start : tie.Need-part-write-part-start
-part-write-part-start c = search needs
-
-part-write-part-end : tie.Need-part-write-part-end
-part-write-part-end c = search needs
-
-write-part-requires : tie.Need-write-part-requires
-unfolding amendedText
-write-part-requires c κs = search rooms depth 24
-
-add-l : tie.Need-add-l
-add-l c = search needs
-
-sub-write-bytes-2 : tie.Need-sub-write-bytes-2
-sub-write-bytes-2 c = search needs
-
-part-write-bytes-start-2 : tie.Need-part-write-bytes-start-2
-part-write-bytes-start-2 c = search needs
-
-part-write-bytes-end-2 : tie.Need-part-write-bytes-end-2
-part-write-bytes-end-2 c = search needs
-
-slice-aggregate-write-bytes-2 : tie.Need-slice-aggregate-write-bytes-2
-slice-aggregate-write-bytes-2 c = search needs
-
-write-bytes-requires-3 : tie.Need-write-bytes-requires-3
-unfolding amendedText
-write-bytes-requires-3 c κs = search rooms depth 24
+write-bytes-requires c κs = search rooms depth 24
 
 add-result : tie.Need-add-result
 add-result c = search needs
@@ -89,28 +41,13 @@ pub write-amended-spec : {M : Type 1} → statement M
 write-amended-spec =
     tie.close
     (tie.spec
-    write-bytes-requires
-    sub-write-decimal
-    part-write-decimal-start
-    part-write-decimal-end
-    write-decimal-requires
-    add-j
+    slice-aggregate-write-sided
+    write-sided-requires
     sub-write-bytes
     part-write-bytes-start
     part-write-bytes-end
     slice-aggregate-write-bytes
-    write-bytes-requires-2
-    add-k
-    sub-write-part
-    part-write-part-start
-    part-write-part-end
-    write-part-requires
-    add-l
-    sub-write-bytes-2
-    part-write-bytes-start-2
-    part-write-bytes-end-2
-    slice-aggregate-write-bytes-2
-    write-bytes-requires-3
+    write-bytes-requires
     add-result
     same-length
     returns)

@@ -4,9 +4,15 @@ use borrow.Author.Needs.{needs}
 use Rattle.factline.proofs.write_correction.Statement.{statement}
 use Rattle.factline.proofs.write_correction.Tie as tie
 
-write-original-requires : tie.Need-write-original-requires
+slice-aggregate-write-sided : tie.Need-slice-aggregate-write-sided
+slice-aggregate-write-sided c = search needs
+
+slice-aggregate-write-sided-2 : tie.Need-slice-aggregate-write-sided-2
+slice-aggregate-write-sided-2 c = search needs
+
+write-sided-requires : tie.Need-write-sided-requires
 unfolding correctionText
-write-original-requires c κs = search rooms depth 24
+write-sided-requires c κs = search rooms depth 24
 
 sub-write-bytes : tie.Need-sub-write-bytes
 sub-write-bytes c = search needs
@@ -73,7 +79,9 @@ pub write-correction-spec : {M : Type 1} → statement M
 write-correction-spec =
     tie.close
     (tie.spec
-    write-original-requires
+    slice-aggregate-write-sided
+    slice-aggregate-write-sided-2
+    write-sided-requires
     sub-write-bytes
     part-write-bytes-start
     part-write-bytes-end

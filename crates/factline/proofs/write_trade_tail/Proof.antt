@@ -1,4 +1,5 @@
 use Rattle.text.proofs.Writing.{rooms, then}
+use Rattle.facts.specs.Entry.{conditionsIn}
 use Rattle.factline.specs.Lines.{tradeTail}
 use borrow.Author.Needs.{needs}
 use Rattle.factline.proofs.write_trade_tail.Statement.{statement}
@@ -8,7 +9,7 @@ slice-aggregate-write-bytes : tie.Need-slice-aggregate-write-bytes
 slice-aggregate-write-bytes c = search needs
 
 write-bytes-requires : tie.Need-write-bytes-requires
-unfolding tradeTail
+unfolding tradeTail conditionsIn
 write-bytes-requires c κs = search rooms depth 24
 
 sub-write-priced : tie.Need-sub-write-priced
@@ -21,7 +22,7 @@ part-write-priced-end : tie.Need-part-write-priced-end
 part-write-priced-end c = search needs
 
 write-priced-requires : tie.Need-write-priced-requires
-unfolding tradeTail
+unfolding tradeTail conditionsIn
 write-priced-requires c κs = search rooms depth 24
 
 add-j : tie.Need-add-j
@@ -40,7 +41,7 @@ slice-aggregate-write-bytes-2 : tie.Need-slice-aggregate-write-bytes-2
 slice-aggregate-write-bytes-2 c = search needs
 
 write-bytes-requires-2 : tie.Need-write-bytes-requires-2
-unfolding tradeTail
+unfolding tradeTail conditionsIn
 write-bytes-requires-2 c κs = search rooms depth 24
 
 add-k : tie.Need-add-k
@@ -56,7 +57,7 @@ part-write-volume-end : tie.Need-part-write-volume-end
 part-write-volume-end c = search needs
 
 write-volume-requires : tie.Need-write-volume-requires
-unfolding tradeTail
+unfolding tradeTail conditionsIn
 write-volume-requires c κs = search rooms depth 24
 
 add-result : tie.Need-add-result
@@ -66,7 +67,7 @@ same-length : tie.Need-same-length
 same-length c = search needs
 
 returns : tie.Need-returns
-unfolding tradeTail
+unfolding tradeTail conditionsIn
 returns c = search then
 
 pub write-trade-tail-spec : {M : Type 1} → statement M

@@ -1,0 +1,2 @@
+pub mod Trims
+pub mod Short
