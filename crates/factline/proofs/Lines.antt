@@ -13,8 +13,8 @@ use Rattle.facts.specs.declared.TradeEntry.{TradeEntry}
 use Rattle.facts.specs.declared.Entry.{Entry}
 use Rattle.facts.specs.declared.Entry.the-variants.{Silent, Announced, Traded, Cancelled, Erred, Corrected}
 use Rattle.text.specs.Decimal.{decimal}
-use Rattle.factside.specs.Sides.{conditionsWith, conditionsText, fullText}
-use Rattle.factline.specs.Lines.{partText, volumeText, tradeText, amendedText, correctionText, announcedText, factLine, lineOf}
+use Rattle.factside.specs.Sides.{conditionsWith, conditionsText, fullText, partText, volumeText}
+use Rattle.factline.specs.Lines.{tradeText, amendedText, correctionText, announcedText, factLine, lineOf}
 
 -- ---- a side, a volume
 

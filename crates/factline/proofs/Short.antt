@@ -15,8 +15,9 @@ use Rattle.facts.specs.Short.{ShortConditions, ShortPart, ShortVolume, ShortFac
 use Rattle.facts.specs.declared.Entry.{Entry}
 use Rattle.facts.specs.declared.Entry.the-variants.{Silent, Announced, Traded, Cancelled, Erred, Corrected}
 use Rattle.factvalue.proofs.Short.{either-short}
+use Rattle.factside.specs.Sides.{partText, volumeText}
 use Rattle.factside.proofs.Short.{conditions-short, priced-short, full-short}
-use Rattle.factline.specs.Lines.{partText, volumeText, flagText, tradeHead, tradeTail, tradeText, sidedText, amendedText, correctionText, announcedText, factLine, lineOf}
+use Rattle.factline.specs.Lines.{flagText, tradeHead, tradeTail, tradeText, sidedText, amendedText, correctionText, announcedText, factLine, lineOf}
 
 -- ---- a side, a line
 

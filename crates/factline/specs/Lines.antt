@@ -6,20 +6,8 @@ use mathlib.Core.Option.{Option, none, some}
 use Rattle.text.specs.Bytes.{bytes}
 use Rattle.text.specs.Pick.{pick}
 use Rattle.text.specs.Decimal.{decimal}
-use Rattle.rules.specs.Shown.{Conditions, Part, inFull, bare, Fact, announced, traded, cancelled, erred, corrected}
-use Rattle.factside.specs.Sides.{conditionsText, pricedText, fullText}
-
--- ---- a side
-
-unfoldable pub partText : Part → List ℕ
-partText (inFull price c volume) = fullText price c volume
-partText (bare c) = conditionsText c
-
--- ---- a line
-
-unfoldable pub volumeText : Option ℕ → List ℕ
-volumeText none = bytes "-"
-volumeText (some n) = decimal n
+use Rattle.rules.specs.Shown.{Conditions, Part, Fact, announced, traded, cancelled, erred, corrected}
+use Rattle.factside.specs.Sides.{pricedText, partText, volumeText}
 
 unfoldable pub flagText : Bool → List ℕ
 flagText b = pick b (bytes "1") (bytes "0")

@@ -15,8 +15,8 @@ ghost use Prim.Native.Nat.{_≤_};
 ghost use lib.ListN.{length};
 ghost use Rattle.text.specs.Put.{Written};
 ghost use Rattle.facts.specs.Entry.{conditionsIn, partIn, volumeIn, factIn};
-ghost use Rattle.factside.specs.Sides.{conditionsText, pricedText, fullText};
-ghost use Rattle.factline.specs.Lines.{partText, volumeText, flagText, tradeHead, tradeTail, tradeText, sidedText, amendedText, correctionText, announcedText, lineOf};
+ghost use Rattle.factside.specs.Sides.{partText, volumeText};
+ghost use Rattle.factline.specs.Lines.{flagText, tradeHead, tradeTail, tradeText, sidedText, amendedText, correctionText, announcedText, lineOf};
 
 // ---- a side
 

@@ -44,7 +44,8 @@ use Rattle.planprint.specs.Print.{printedName, textOf, fittedOf, printOf}
 use Rattle.engine.specs.Taken.{asked}
 use Rattle.calls.specs.Held.{stopOf}
 use Rattle.calls.proofs.Agree.{by-rules}
-use Rattle.facts.specs.Entry.{factIn, showsShares, volumeOf, planFact, SoundSide, SoundTrade, SoundCancel, SoundCorrection, SoundFact}
+use Rattle.factside.specs.Sound.{SoundSide}
+use Rattle.facts.specs.Entry.{factIn, showsShares, volumeOf, planFact, SoundTrade, SoundCancel, SoundCorrection, SoundFact}
 use Rattle.facts.specs.Short.{ShortConditions, ShortPart, ShortVolume, ShortFact, ShortShown}
 use Rattle.facts.specs.declared.Entry.{Entry}
 use Rattle.facts.proofs.Owed.{SmallTrade, SmallCorrection, SmallLine, small-line}

@@ -41,11 +41,6 @@ use Rattle.facts.specs.declared.Entry.the-variants.{Silent, Announced, T
 
 -- ---- a side
 
-pub letters-shown : (x : Letters) (m k : Bool) → m ≡ (x .n || x .m) → k ≡ (x .c || x .k)
-    → record { o = x .o; s = x .s; l = x .l; n = false; m = m; c = false; k = k; b = x .b; t = x .t; r = x .r; j = x .j; g = x .g } ≡ shownLetters x
-unfolding shownLetters
-letters-shown x m k e f = rw (e, f)
-
 pub conditions-held : (x : Side) (l : Letters) (p : ℕ) → l ≡ shownLetters (x .letters) → p ≡ units (x .previous) → conditionsIn (record { letters = l; days = x .days; previous = p }) ≡ conditionsOf x
 unfolding conditionsIn conditionsOf
 conditions-held x l p e f = rw (e, f)

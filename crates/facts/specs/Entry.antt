@@ -1,5 +1,5 @@
 -- The entry of a line as a value: the shown fact (rules, Shown) that it stands for, and the one that a plan asks for. Assumes nothing.
-use Prim.Native.Nat.{ℕ, _+_, _^_, _≤_, _<_}
+use Prim.Native.Nat.{ℕ, _+_, _≤_, _<_}
 use mathlib.Core.Bool.{Bool, true, false, _&&_, _||_, not}
 use mathlib.Core.List.{List, []}
 use mathlib.Core.Option.{Option, none, some}
@@ -12,8 +12,7 @@ use Rattle.rules.specs.Announcement.{modeText, levelText, stepText}
 use Rattle.rules.specs.Shown as shown
 use Rattle.rules.specs.Shown.{Fact, announced, traded, cancelled, erred, corrected, inFull, bare, conditionsOf, partOf, announcedIf}
 use Rattle.rules.specs.declared.Settings.{Settings}
-use Rattle.rules.specs.declared.Side.{Side}
-use Rattle.prices.specs.Sound.{Sound}
+use Rattle.factside.specs.Sound.{SoundSide}
 use Rattle.table.specs.Rows.{nameOf}
 use Rattle.planner.specs.declared.TradePlan.{TradePlan}
 use Rattle.planner.specs.declared.CancelPlan.{CancelPlan}
@@ -80,12 +79,6 @@ planFact st names (Correct c) =
     none
 
 -- ---- what an accepted line owes: prices within their values, volume and days within their columns, a place in the tables, a unit
-
-pub record SoundSide (x : Side) : Type 0 where
-  pub price-is : Sound (x .price)
-  pub previous-is : Sound (x .previous)
-  pub volume-is : x .volume < 10 ^ 9
-  pub days-is : x .days < 10 ^ 3
 
 pub record SoundTrade (t : TradePlan) : Type 0 where
   pub place-is : t .place < 512

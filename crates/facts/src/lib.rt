@@ -9,17 +9,18 @@ use rules::Mode;
 use rules::Settings;
 use rules::Side;
 ghost use mathlib.Core.Path.{_≡_};
-ghost use mathlib.Core.Bool.{_&&_, _||_};
+ghost use mathlib.Core.Bool.{_&&_};
 ghost use Prim.Native.Nat.{ℕ, _≤_, _<_};
 ghost use Rattle.rules.specs.Names.{hasTemporary};
 ghost use Rattle.rules.specs.Announcement.{stepText};
 ghost use Rattle.rules.specs.Day.{tapeOf};
-ghost use Rattle.rules.specs.Shown.{shownLetters, conditionsOf, partOf, announcedIf, shownBy};
+ghost use Rattle.rules.specs.Shown.{conditionsOf, partOf, announcedIf, shownBy};
 ghost use Rattle.prices.specs.Sound.{Sound};
 ghost use Rattle.table.specs.Rows.{nameOf, dayOf};
 ghost use Rattle.planner.specs.declared.Plan.the-variants.{Print, Cancel, Correct};
 ghost use Rattle.planprint.specs.Print.{printOf};
-ghost use Rattle.facts.specs.Entry.{conditionsIn, partIn, volumeIn, factIn, showsShares, volumeOf, planFact, SoundSide, SoundTrade, SoundCancel, SoundCorrection, SoundFact};
+ghost use Rattle.factside.specs.Sound.{SoundSide};
+ghost use Rattle.facts.specs.Entry.{conditionsIn, partIn, volumeIn, factIn, showsShares, volumeOf, planFact, SoundTrade, SoundCancel, SoundCorrection, SoundFact};
 
 // The conditions of a side as they are shown: N as M, C as K; days and previous last 0 for none. Prices are in units of ten
 // to the power -8 dollars.
@@ -63,34 +64,6 @@ pub enum Entry {
 
 // ---- a side
 
-fn either(a: bool, b: bool) -> bool
-    ensures { λ r. ⌜ r ≡ (a || b) ⌝ }
-{
-    if a {
-        return true;
-    }
-    b
-}
-
-fn shown_letters(x: Letters) -> Letters
-    ensures { λ r. ⌜ r ≡ shownLetters x ⌝ }
-{
-    Letters {
-        o: x.o,
-        s: x.s,
-        l: x.l,
-        n: false,
-        m: either(x.n, x.m),
-        c: false,
-        k: either(x.c, x.k),
-        b: x.b,
-        t: x.t,
-        r: x.r,
-        j: x.j,
-        g: x.g,
-    }
-}
-
 fn conditions_of(x: Side) -> Conditions
     requires { ⌜ Sound (x .previous) ⌝ }
     ensures { λ r. ⌜ conditionsIn r ≡ conditionsOf x ⌝ }
@@ -98,7 +71,7 @@ fn conditions_of(x: Side) -> Conditions
     let letters = x.letters;
     let previous = x.previous;
     Conditions {
-        letters: shown_letters(letters),
+        letters: factside::shown_letters(letters),
         days: x.days,
         previous: prices::in_units(previous),
     }

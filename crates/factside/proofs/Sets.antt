@@ -1,12 +1,20 @@
--- A set that may have no letter: room for it, and its text. Assumes nothing.
+-- The letters as they are shown; a set that may have no letter: room for it, and its text. Assumes nothing.
 use Prim.Native.Nat.{ℕ, _≤_}
 use native.Mathlib.Omega.{arith}
 use mathlib.Core.Path.{_≡_, refl, sym, ap, _∙_}
+use mathlib.Core.Bool.{Bool, false, _||_}
 use mathlib.Core.List.{List, [], _∷_}
 use lib.ListN.{length}
 use Rattle.text.specs.Bytes.{bytes}
 use Rattle.text.specs.Put.{put, Written}
+use Rattle.rules.specs.Shown.{shownLetters}
+use Rattle.rules.specs.declared.Letters.{Letters}
 use Rattle.factside.specs.Sides.{orNone}
+
+pub letters-shown : (x : Letters) (m k : Bool) → m ≡ (x .n || x .m) → k ≡ (x .c || x .k)
+    → record { o = x .o; s = x .s; l = x .l; n = false; m = m; c = false; k = k; b = x .b; t = x .t; r = x .r; j = x .j; g = x .g } ≡ shownLetters x
+unfolding shownLetters
+letters-shown x m k e f = rw (e, f)
 
 no-bytes : (t : List ℕ) → 0 ≡ length t → t ≡ []
 no-bytes [] e = refl

@@ -1,10 +1,11 @@
--- The text of a side that is shown in full, and of its conditions. Assumes nothing.
+-- The text of a side, of its conditions and of a volume. Assumes nothing.
 use Prim.Native.Nat.{ℕ}
 use mathlib.Core.List.{List, [], _∷_, _++_}
+use mathlib.Core.Option.{Option, none, some}
 use Rattle.text.specs.Bytes.{bytes}
 use Rattle.text.specs.Pick.{opt}
 use Rattle.text.specs.Decimal.{decimal}
-use Rattle.rules.specs.Shown.{Conditions}
+use Rattle.rules.specs.Shown.{Conditions, Part, inFull, bare}
 use Rattle.rules.specs.declared.Letters.{Letters}
 use Rattle.factvalue.specs.Values.{numberText, valueText, valueOrNone}
 
@@ -46,3 +47,13 @@ pricedText price c = bytes "price=" ++ valueText price ++ bytes " " ++ condition
 
 unfoldable pub fullText : ℕ → Conditions → ℕ → List ℕ
 fullText price c volume = pricedText price c ++ bytes " vol=" ++ decimal volume
+
+-- ---- a side, in full or not; the volume of a trade, `-` for none
+
+unfoldable pub partText : Part → List ℕ
+partText (inFull price c volume) = fullText price c volume
+partText (bare c) = conditionsText c
+
+unfoldable pub volumeText : Option ℕ → List ℕ
+volumeText none = bytes "-"
+volumeText (some n) = decimal n

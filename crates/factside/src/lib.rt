@@ -1,11 +1,43 @@
 // A side that is shown in full, as text: price=P cond=L days=Y prev=Q vol=V. Prices are by value; `-` is none.
 use rules::Letters;
+ghost use mathlib.Core.Path.{_≡_};
+ghost use mathlib.Core.Bool.{_||_};
 ghost use Prim.Native.Nat.{_≤_};
 ghost use lib.ListN.{length};
 ghost use Rattle.text.specs.Put.{Written};
+ghost use Rattle.rules.specs.Shown.{shownLetters};
 ghost use Rattle.factside.specs.Sides.{sequenceLetters, settlementLetters, otherLetters, lettersText, orNone, setAndDays, conditionsWith, conditionsText, pricedText, fullText};
 
 // ---- conditions
+
+fn either(a: bool, b: bool) -> bool
+    ensures { λ r. ⌜ r ≡ (a || b) ⌝ }
+{
+    if a {
+        return true;
+    }
+    b
+}
+
+// The letters as they are shown: N as M, C as K.
+pub fn shown_letters(x: Letters) -> Letters
+    ensures { λ r. ⌜ r ≡ shownLetters x ⌝ }
+{
+    Letters {
+        o: x.o,
+        s: x.s,
+        l: x.l,
+        n: false,
+        m: either(x.n, x.m),
+        c: false,
+        k: either(x.c, x.k),
+        b: x.b,
+        t: x.t,
+        r: x.r,
+        j: x.j,
+        g: x.g,
+    }
+}
 
 fn write_sequence(rest: &mut [u8], x: Letters) -> usize
     requires { ⌜ length (sequenceLetters x) ≤ length (now rest) ⌝ }

@@ -1,7 +1,7 @@
-use Rattle.facts.proofs.Arms.{letters-shown}
+use Rattle.factside.proofs.Sets.{letters-shown}
 use borrow.Author.Needs.{needs}
-use Rattle.facts.proofs.shown_letters.Statement.{statement}
-use Rattle.facts.proofs.shown_letters.Tie as tie
+use Rattle.factside.proofs.shown_letters.Statement.{statement}
+use Rattle.factside.proofs.shown_letters.Tie as tie
 
 either-requires : tie.Need-either-requires
 either-requires c κs = search needs
