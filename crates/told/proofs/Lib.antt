@@ -1,0 +1,4 @@
+pub mod Tails
+pub mod Sound
+pub mod Lines
+pub mod Short
