@@ -13,14 +13,14 @@ use Rattle.rules.specs.declared.Side.{Side}
 use Rattle.prices.specs.Sound.{Sound}
 use Rattle.scan.specs.declared.PriceAnswer.{PriceAnswer}
 use Rattle.scan.specs.declared.PriceAnswer.the-variants.{Priced, NoPrice}
-use Rattle.scan.specs.declared.Volume.{Volume}
-use Rattle.scan.specs.declared.Volume.the-variants.{Unsaid}
-use Rattle.scan.specs.declared.VolumeAnswer.{VolumeAnswer}
-use Rattle.scan.specs.declared.VolumeAnswer.the-variants.{Said, NoVolume}
+use Rattle.volumescan.specs.declared.Volume.{Volume}
+use Rattle.volumescan.specs.declared.Volume.the-variants.{Unsaid}
+use Rattle.volumescan.specs.declared.VolumeAnswer.{VolumeAnswer}
+use Rattle.volumescan.specs.declared.VolumeAnswer.the-variants.{Said, NoVolume}
 use Rattle.scan.specs.Price.{priceAt}
-use Rattle.scan.specs.Volume.{volumeAt, sharesIn}
+use Rattle.volumescan.specs.Volume.{volumeAt, sharesIn}
 use Rattle.scan.proofs.Text.{price-found}
-use Rattle.scan.proofs.Shown.{volume-found, shares-small}
+use Rattle.volumescan.proofs.Shown.{volume-found, shares-small}
 use Rattle.tails.specs.declared.Taken.{Taken}
 use Rattle.tails.proofs.Kept.{tail-volume, tail-price}
 use Rattle.sideread.specs.declared.Beside.{Beside}
