@@ -1,7 +1,7 @@
 // The stored tapes: the reader goes over each tape of data/ from its front, print after print, up to its end or a refusal, and
 // what it tells is held to the stored answers, the file stdout: a line for each print, and for the refusal. Tapes 01 to 16 are
-// the vectors'; 17 is document 01's own; 18 to 22 are prints where a longer way fails, and one that is none. A tape is shorter
-// than 8,192 bytes.
+// the vectors'; 17 is document 01's own; 18 to 22 are prints where a longer way fails, and one that is none; 23 to 44 are what
+// a greedy reading falls into, one each (docs/EXAMPLES.md lists them). A tape is shorter than 8,192 bytes.
 use libc::STDOUT_FILENO;
 ghost use mathlib.Core.Path.{_≡_};
 ghost use Prim.Native.Nat.{_≤_, _<_};
@@ -72,12 +72,12 @@ fn run_file(path: &[u8], block: &mut [u8; 8192], line: &mut [u8; 8704]) -> bool 
     show_front(block, n, line)
 }
 
-// Tapes 01 to 22, up to the first that fails.
+// Tapes 01 to 44, up to the first that fails.
 fn main() {
     let mut block = [0u8; 8192];
     let mut line = [0u8; 8704];
     let mut n: u8 = 1;
-    while n <= 22 {
+    while n <= 44 {
         let name = tape_name(n);
         if !run_file(&name, &mut block, &mut line) {
             return;

@@ -5,10 +5,10 @@ use Rattle.tapes.proofs.main.Statement.{statement}
 use Rattle.tapes.proofs.main.Tie as tie
 
 abbrev Inv-loop : tie.InvT-loop
-Inv-loop block₀ line₀ n₀ block line n = n ≤ 23
+Inv-loop block₀ line₀ n₀ block line n = n ≤ 45
 
 abbrev μ-loop : tie.MeasureT-loop
-μ-loop block₀ line₀ n₀ block line n = 23 - n
+μ-loop block₀ line₀ n₀ block line n = 45 - n
 
 loop-holds : tie.Need-loop-holds Inv-loop μ-loop
 loop-holds c = search needs
