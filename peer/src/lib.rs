@@ -5,6 +5,7 @@ pub mod announcements;
 pub mod conditions;
 pub mod corrections;
 pub mod day;
+pub mod dice;
 pub mod facts;
 pub mod lines;
 pub mod names;

@@ -42,7 +42,7 @@ pub fn price(n: &Digits, decimals: u8) -> Option<Price> {
 impl Price {
     #[inline(always)]
     pub fn ends_in_zero(&self) -> bool {
-        self.value / DOLLAR % 10 == 0
+        (self.value / DOLLAR).is_multiple_of(10)
     }
 
     #[inline(always)]
@@ -63,7 +63,7 @@ impl Price {
         let point = 16 - d;
         let whole = if full { usize::from(self.count).saturating_sub(d) } else { 1 };
         tape.start_of(&self.digits_from((point - whole) & 15), whole);
-        if self.value % DOLLAR != 0 {
+        if !self.value.is_multiple_of(DOLLAR) {
             tape.byte(b',');
             tape.start_of(&self.digits_from(point & 15), d);
         }

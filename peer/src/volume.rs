@@ -24,7 +24,7 @@ pub fn write_full(tape: &mut Tape, volume: u32) {
 /// The volume of a trade under its security's unit and network.
 #[inline(always)]
 pub fn write(tape: &mut Tape, volume: u32, unit: u8, network: Network) {
-    if unit == 100 && volume % 100 == 0 {
+    if unit == 100 && volume.is_multiple_of(100) {
         if volume >= 10_000 {
             write_full(tape, volume);
             tape.byte(b's');
@@ -34,11 +34,11 @@ pub fn write(tape: &mut Tape, volume: u32, unit: u8, network: Network) {
         }
         return;
     }
-    let tens = unit < 100 && network == Network::A && volume % u32::from(unit) == 0;
+    let tens = unit < 100 && network == Network::A && volume.is_multiple_of(u32::from(unit));
     if tens && volume >= 10_000 {
         write_full(tape, volume);
         tape.byte(b'$');
-    } else if tens && volume % 10 == 0 {
+    } else if tens && volume.is_multiple_of(10) {
         tape.small(volume / 10);
         tape.byte(b'$');
     } else {

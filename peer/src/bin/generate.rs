@@ -5,26 +5,7 @@
 
 use std::io::{self, BufWriter, Write};
 
-/// Numbers that look random (splitmix64).
-struct Dice(u64);
-
-impl Dice {
-    fn next(&mut self) -> u64 {
-        self.0 = self.0.wrapping_add(0x9e37_79b9_7f4a_7c15);
-        let mut z = self.0;
-        z = (z ^ (z >> 30)).wrapping_mul(0xbf58_476d_1ce4_e5b9);
-        z = (z ^ (z >> 27)).wrapping_mul(0x94d0_49bb_1331_11eb);
-        z ^ (z >> 31)
-    }
-
-    fn below(&mut self, n: u64) -> u64 {
-        self.next() % n
-    }
-
-    fn pick<T: Copy>(&mut self, of: &[T]) -> T {
-        of[self.below(of.len() as u64) as usize]
-    }
-}
+use peer::dice::Dice;
 
 /// One line: 100 columns, numbered from 1, blank at first.
 struct Columns([u8; 101]);
@@ -69,10 +50,10 @@ const MARKETS: [u8; 10] = *b"ABWMCDTNPX";
 fn root(number: u64) -> Vec<u8> {
     let letter = |n: u64| b'A' + (n % 26) as u8;
     let mut root = vec![letter(number * 7), letter(number / 26)];
-    if number % 3 != 0 {
+    if !number.is_multiple_of(3) {
         root.push(letter(number / 3));
     }
-    if number % 5 == 0 {
+    if number.is_multiple_of(5) {
         root.push(b'Q');
     }
     root
@@ -123,7 +104,7 @@ fn volume(dice: &mut Dice, unit: u64) -> u64 {
 /// Volume to previous last, from a column on; `oddity` is a letter set that is refused 10 or 11.
 fn side(dice: &mut Dice, line: &mut Columns, from: usize, security: &Security, price: u64, oddity: Option<&[u8]>) {
     line.number(from + 8, volume(dice, security.unit));
-    let shorter = price % 10 == 0 && security.decimals > 0 && dice.below(2) == 0;
+    let shorter = price.is_multiple_of(10) && security.decimals > 0 && dice.below(2) == 0;
     let (n, d) = if shorter { (price / 10, security.decimals - 1) } else { (price, security.decimals) };
     line.number(from + 22, n);
     line.number(from + 23, u64::from(d));
