@@ -43,6 +43,23 @@ impl Letters {
     }
 
     #[inline(always)]
+    pub const fn count(self) -> u32 {
+        self.0.count_ones()
+    }
+
+    /// As the tape shows them: N as M, C as K.
+    pub fn shown(self) -> Letters {
+        let mut shown = Letters(self.0 & !(Self::NEXT_DAY.0 | Self::CASH.0));
+        if self.any(Self::NEXT_DAY) {
+            shown = shown.with(Self::NEXT_DAY_ONLY);
+        }
+        if self.any(Self::CASH) {
+            shown = shown.with(Self::CASH_ONLY);
+        }
+        shown
+    }
+
+    #[inline(always)]
     fn at_most_one(self, of: Letters) -> bool {
         let found = self.0 & of.0;
         found & found.wrapping_sub(1) == 0

@@ -54,7 +54,7 @@ pub fn cancel_shape(security: &Security, settings: &Settings, side: &Side) -> Sh
 }
 
 /// The name repeats if the correcting trade has any of these.
-const REPEATS_NAME: Letters = Letters::LATE.with(Letters::NEXT).with(Letters::FOR_CASH).with(Letters::AVERAGE);
+pub const REPEATS_NAME: Letters = Letters::LATE.with(Letters::NEXT).with(Letters::FOR_CASH).with(Letters::AVERAGE);
 
 pub fn write_correction(tape: &mut Tape, security: &Security, original: &Side, correcting: &Side, shape: Shape) {
     let name = &security.names.plain;

@@ -1,5 +1,5 @@
-//! The day engine of document 01 in plain Rust: independent evidence for the tape, and a measure of speed.
-//! One module a section of the document. No allocation per line.
+//! The day engine and the reader of document 01 in plain Rust: independent evidence for the tape, and a measure of speed.
+//! One module a section of the document. No allocation per line or print.
 
 pub mod announcements;
 pub mod conditions;
@@ -11,6 +11,7 @@ pub mod lines;
 pub mod names;
 pub mod price;
 pub mod program;
+pub mod reader;
 pub mod refusals;
 pub mod tape;
 pub mod trades;

@@ -56,9 +56,9 @@ impl Names {
             Network::A => b"BC",
             Network::B => b"DL",
         };
-        let lawful = !matches!(root, b"SHRS" | b"RULE" | b"SELLER")
+        let lawful = !is_reserved(root)
             && (suffix.is_empty() || is_suffix(suffix))
-            && matches!(temporary, b"" | b"XD" | b"XDIS" | b"Xr" | b"N" | b"XI")
+            && (temporary.is_empty() || TEMPORARY.contains(&temporary))
             && (appendage.is_empty() || appendage == own);
         ensure(lawful, Refusal::Unlisted)?;
         let mut names = Names::NONE;
@@ -82,6 +82,49 @@ fn trimmed(field: &[u8]) -> &[u8] {
     let len = field.iter().rposition(|&byte| byte != b' ').map_or(0, |last| last + 1);
     &field[..len]
 }
+
+pub fn is_reserved(root: &[u8]) -> bool {
+    matches!(root, b"SHRS" | b"RULE" | b"SELLER")
+}
+
+/// What stands after the root of a name as it is on the tape.
+pub struct Parts {
+    /// It can stand without a temporary suffix.
+    pub plain: bool,
+    /// The network that its appendage is of.
+    pub network: Option<Network>,
+}
+
+/// None if no name goes on so after its root. No suffix ends as an appendage does.
+pub fn undivided(parts: &[u8]) -> Option<Parts> {
+    let (parts, network) = if let Some(before) = parts.strip_suffix(b".BC") {
+        (before, Some(Network::A))
+    } else if let Some(before) = parts.strip_suffix(b".DL") {
+        (before, Some(Network::B))
+    } else {
+        (parts, None)
+    };
+    let plain = is_suffix_or_blank(parts);
+    let lawful = plain
+        || TEMPORARY.iter().any(|temporary| {
+            let before = parts.strip_suffix(*temporary).and_then(|before| before.strip_suffix(b"."));
+            before.is_some_and(is_suffix_or_blank)
+        });
+    lawful.then_some(Parts { plain, network })
+}
+
+/// A suffix with its letter dot, or nothing.
+fn is_suffix_or_blank(text: &[u8]) -> bool {
+    match text {
+        [] => true,
+        [b'p' | b'r' | b'w', ..] => is_suffix(text),
+        [b'.', suffix @ ..] => !matches!(suffix, [b'p' | b'r' | b'w', ..]) && is_suffix(suffix),
+        _ => false,
+    }
+}
+
+/// Each of them has a letter dot before it.
+const TEMPORARY: [&[u8]; 5] = [b"XD", b"XDIS", b"Xr", b"N", b"XI"];
 
 const SUFFIXES: [&[u8]; 42] = [
     b"A", b"A.CL", b"A.CV", b"Aw", b"A.N", b"B", b"B.CL", b"B.CV", b"Bw", b"B.N", b"CL", b"CT", b"CV", b"CVR",

@@ -1,4 +1,4 @@
-//! The day program: lines from a stream, the tape and the refusals to two others, in blocks.
+//! The day program: lines from a stream, the tape and the refusals to two others, in blocks. The reader's program.
 
 use std::fs::File;
 use std::io::{self, Read, Write};
@@ -7,12 +7,15 @@ use std::os::fd::AsFd;
 use crate::day::Day;
 use crate::facts::Facts;
 use crate::lines::Line;
+use crate::reader;
 use crate::refusals::Refusal;
 use crate::tape::{Tape, ROOM};
 
 const BLOCK: usize = 256 * 1024;
 /// Reading ends after this line.
 const LAST_LINE: u64 = 9_999_999_999;
+/// The reader's program ends above this place.
+const LAST_PLACE: u64 = 9_999_999_999;
 
 /// Cuts a stream at line feeds. A line over 100 bytes may come shortened, still over 100.
 struct Lines<R> {
@@ -109,20 +112,23 @@ impl<W: Write> Blocks<W> {
     }
 }
 
-/// Line number in columns 1-10, refusal in 11-13, a line feed.
-fn refusal_line(room: &mut [u8; ROOM], mut number: u64, refusal: Refusal) -> usize {
-    room[..14].copy_from_slice(b"              ");
-    let mut at = 10;
-    while number > 0 {
-        at -= 1;
-        room[at] = b'0' + (number % 10) as u8;
+/// A number at the end of blank columns.
+#[inline(always)]
+fn right_justify(columns: &mut [u8], mut number: u64) {
+    for column in columns.iter_mut().rev() {
+        *column = b'0' + (number % 10) as u8;
         number /= 10;
+        if number == 0 {
+            return;
+        }
     }
-    let refusal = refusal as u8;
-    if refusal >= 10 {
-        room[11] = b'0' + refusal / 10;
-    }
-    room[12] = b'0' + refusal % 10;
+}
+
+/// Line number in columns 1-10, refusal in 11-13, a line feed.
+fn refusal_line(room: &mut [u8; ROOM], number: u64, refusal: Refusal) -> usize {
+    room[..14].copy_from_slice(b"              ");
+    right_justify(&mut room[..10], number);
+    right_justify(&mut room[10..13], refusal as u64);
     room[13] = b'\n';
     14
 }
@@ -176,6 +182,48 @@ pub fn facts(input: impl Read, mut output: impl Write) -> io::Result<()> {
         }
     }
     output.write_all(&facts.text)
+}
+
+/// Place and length in ten columns each.
+#[inline(always)]
+fn print_columns(room: &mut [u8; ROOM], place: u64, len: usize) {
+    room[..20].copy_from_slice(b"                    ");
+    right_justify(&mut room[..10], place);
+    right_justify(&mut room[10..20], len as u64);
+}
+
+/// A tape to the places and lengths of its prints, one line a print, with name and facts if these are asked for.
+/// It ends at the tape's end, behind a refusal, and above the last place.
+pub fn read(mut input: impl Read, output: impl Write, with_facts: bool) -> io::Result<()> {
+    let mut tape = Vec::new();
+    input.read_to_end(&mut tape)?;
+    let mut output = Blocks::new(output);
+    let mut facts = Facts::default();
+    let mut place = 0;
+    while place < tape.len() && place as u64 <= LAST_PLACE {
+        let print = reader::read(&tape, place);
+        let len = print.map_or(0, |print| print.len);
+        print_columns(output.room(), place as u64, len);
+        output.advance(20)?;
+        if with_facts {
+            facts.text.clear();
+            match &print {
+                Ok(print) => facts.read(print),
+                Err(_) => facts.text.extend_from_slice(b" name= -"),
+            }
+            for part in facts.text.chunks(ROOM) {
+                output.room()[..part.len()].copy_from_slice(part);
+                output.advance(part.len())?;
+            }
+        }
+        output.room()[0] = b'\n';
+        output.advance(1)?;
+        if print.is_err() {
+            break;
+        }
+        place += len;
+    }
+    output.flush()
 }
 
 /// A standard stream without the library's buffer.

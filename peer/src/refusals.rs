@@ -16,6 +16,7 @@ pub enum Refusal {
     Companion = 11,
     Date = 12,
     Room = 13,
+    NoPrint = 14,
 }
 
 /// `refusal` unless `holds`.
