@@ -1,7 +1,7 @@
 //! Random tapes. Whole ones, printed by the engine in normal mode, are read back print by print. At places of damaged ones
 //! the reader is held to an oracle: every way to take a text apart into the fields of an S line and one more line, each
 //! tried with the engine, and the longest text that it prints.
-//! TAPES is the number of tapes of each kind (300), SEED the first seed (1).
+//! TAPES is the number of tapes of each kind (100), SEED the first seed (1).
 
 mod random;
 
@@ -93,7 +93,7 @@ fn random_prints(dice: &mut Dice, lines: u64) -> Vec<Made> {
 
 #[test]
 fn whole_tapes() {
-    let (tapes, seed) = (setting("TAPES", 300), setting("SEED", 1));
+    let (tapes, seed) = (setting("TAPES", 100), setting("SEED", 1));
     let mut prints = 0;
     for seed in seed..seed + tapes {
         let made = random_prints(&mut Dice(seed), 40);
@@ -422,7 +422,7 @@ fn oracle<'a>(text: &'a [u8], announcements: &HashSet<Vec<u8>>) -> Option<(usize
 
 #[test]
 fn damaged_tapes() {
-    let (tapes, seed) = (setting("TAPES", 300), setting("SEED", 1));
+    let (tapes, seed) = (setting("TAPES", 100), setting("SEED", 1));
     let announcements = announcements();
     let (mut places, mut refused) = (0, 0);
     for seed in seed..seed + tapes {
