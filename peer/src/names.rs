@@ -58,7 +58,7 @@ impl Names {
         };
         let lawful = !is_reserved(root)
             && (suffix.is_empty() || is_suffix(suffix))
-            && (temporary.is_empty() || TEMPORARY.contains(&temporary))
+            && (temporary.is_empty() || is_temporary(temporary))
             && (appendage.is_empty() || appendage == own);
         ensure(lawful, Refusal::Unlisted)?;
         let mut names = Names::NONE;
@@ -106,10 +106,10 @@ pub fn undivided(parts: &[u8]) -> Option<Parts> {
     };
     let plain = is_suffix_or_blank(parts);
     let lawful = plain
-        || TEMPORARY.iter().any(|temporary| {
-            let before = parts.strip_suffix(*temporary).and_then(|before| before.strip_suffix(b"."));
-            before.is_some_and(is_suffix_or_blank)
-        });
+        || parts
+            .iter()
+            .rposition(|&byte| byte == b'.')
+            .is_some_and(|dot| is_temporary(&parts[dot + 1..]) && is_suffix_or_blank(&parts[..dot]));
     lawful.then_some(Parts { plain, network })
 }
 
@@ -123,20 +123,20 @@ fn is_suffix_or_blank(text: &[u8]) -> bool {
     }
 }
 
-/// Each of them has a letter dot before it.
-const TEMPORARY: [&[u8]; 5] = [b"XD", b"XDIS", b"Xr", b"N", b"XI"];
+/// Each of them has a letter dot before it and none inside.
+fn is_temporary(text: &[u8]) -> bool {
+    matches!(text, b"XD" | b"XDIS" | b"Xr" | b"N" | b"XI")
+}
 
-const SUFFIXES: [&[u8]; 42] = [
-    b"A", b"A.CL", b"A.CV", b"Aw", b"A.N", b"B", b"B.CL", b"B.CV", b"Bw", b"B.N", b"CL", b"CT", b"CV", b"CVR",
-    b"CV.CL", b"EC", b"F.N", b"PP", b"PT.CL", b"SC", b"SP", b"SD", b"TT", b"U", b"VR", b"WD", b"WS", b"W.WS", b"WS.A",
-    b"WS.B", b"WS.N", b"WSw", b"XW", b"r", b"rw", b"w", b"p", b"pw", b"pCL", b"pCV", b"pCV.CL", b"pWD",
-];
-
+#[rustfmt::skip]
 fn is_suffix(text: &[u8]) -> bool {
-    SUFFIXES.contains(&text)
-        || match text {
-            [b'p', b'C', b'A'..=b'K' | b'M'..=b'S'] => true,
-            [b'p', b'A'..=b'Z', rest @ ..] => matches!(rest, b"" | b".CV" | b".CL" | b"w"),
-            _ => false,
-        }
+    match text {
+        b"A" | b"A.CL" | b"A.CV" | b"Aw" | b"A.N" | b"B" | b"B.CL" | b"B.CV" | b"Bw" | b"B.N" | b"CL" | b"CT" | b"CV"
+        | b"CVR" | b"CV.CL" | b"EC" | b"F.N" | b"PP" | b"PT.CL" | b"SC" | b"SP" | b"SD" | b"TT" | b"U" | b"VR" | b"WD"
+        | b"WS" | b"W.WS" | b"WS.A" | b"WS.B" | b"WS.N" | b"WSw" | b"XW" | b"r" | b"rw" | b"w" => true,
+        b"p" | b"pw" | b"pCL" | b"pCV" | b"pCV.CL" | b"pWD" => true,
+        [b'p', b'C', b'A'..=b'K' | b'M'..=b'S'] => true,
+        [b'p', b'A'..=b'Z', rest @ ..] => matches!(rest, b"" | b".CV" | b".CL" | b"w"),
+        _ => false,
+    }
 }

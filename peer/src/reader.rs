@@ -185,15 +185,15 @@ fn heading<'a>(rest: &mut &'a [u8]) -> Option<Heading<'a>> {
 /// A heading with more than a root: no part of a name is ND, OPD, SLD or LAST.
 #[inline(never)]
 fn parted_heading(text: &[u8], root: usize) -> Option<Heading<'_>> {
-    let mut name = text;
-    let mut letters = Letters::NONE;
-    for (late, letter) in
-        [(&b".OPD"[..], Letters::OPENED), (b".SLD", Letters::SOLD), (b".SLD.LAST", Letters::SOLD_LAST)]
-    {
-        if let Some(before) = text.strip_suffix(late) {
-            (name, letters) = (before, letter);
-        }
-    }
+    let (mut name, mut letters) = if let Some(before) = text.strip_suffix(b".SLD.LAST") {
+        (before, Letters::SOLD_LAST)
+    } else if let Some(before) = text.strip_suffix(b".SLD") {
+        (before, Letters::SOLD)
+    } else if let Some(before) = text.strip_suffix(b".OPD") {
+        (before, Letters::OPENED)
+    } else {
+        (text, Letters::NONE)
+    };
     if let Some(before) = name.strip_suffix(b".ND") {
         (name, letters) = (before, letters.with(Letters::NEXT_DAY_ONLY));
     }
