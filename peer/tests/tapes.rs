@@ -1,7 +1,8 @@
-//! Random tapes. Whole ones, printed by the engine in normal mode, are read back print by print. At places of damaged ones
-//! the reader is held to an oracle: every way to take a text apart into the fields of an S line and one more line, each
-//! tried with the engine, and the longest text that it prints.
-//! TAPES is the number of tapes of each kind (100), SEED the first seed (1).
+//! Random tapes. Whole ones, printed by the engine in normal mode, are read back print by print. At places of damaged ones,
+//! and of some put together from parts, the reader is held to an oracle: every way to take a text apart into the fields of
+//! an S line and one more line, each tried with the engine, and the longest text that it prints.
+//! TAPES is the number of tapes of each kind (100), SEED the first seed (1); KEEP names a folder that tapes held to the
+//! oracle go to, with what the program writes for each, to try another reader on them.
 
 mod random;
 
@@ -11,9 +12,12 @@ use peer::day::Day;
 use peer::dice::Dice;
 use peer::facts::{Facts, ShownSide};
 use peer::lines::Line;
+use peer::program;
 use peer::reader::{read, ReadFacts};
 use random::{random_entry, random_side, trade_line, Entry, Side};
 use std::collections::HashSet;
+use std::fs::write;
+use std::path::Path;
 
 fn setting(name: &str, otherwise: u64) -> u64 {
     match std::env::var(name) {
@@ -420,36 +424,156 @@ fn oracle<'a>(text: &'a [u8], announcements: &HashSet<Vec<u8>>) -> Option<(usize
     found
 }
 
-#[test]
-fn damaged_tapes() {
-    let (tapes, seed) = (setting("TAPES", 100), setting("SEED", 1));
-    let announcements = announcements();
-    let (mut places, mut refused) = (0, 0);
-    for seed in seed..seed + tapes {
-        let mut dice = Dice(seed);
-        let made = random_prints(&mut dice, 2);
-        let mut tape = made.iter().flat_map(|made| made.text.clone()).collect::<Vec<u8>>();
-        for _ in 0..dice.below(4) {
-            if !tape.is_empty() {
-                damage(&mut dice, &mut tape);
-            }
-        }
-        let mut place = 0;
-        let mut asked = vec![dice.below(1 + tape.len() as u64) as usize];
-        while place < tape.len() {
-            asked.push(place);
-            match read(&tape, place) {
-                Ok(print) => place += print.len,
-                Err(_) => break,
-            }
-        }
-        for place in asked {
-            let found = read(&tape, place).ok().map(|print| (print.len, print.name, print.facts));
-            let text = String::from_utf8_lossy(&tape[place..]);
-            assert_eq!(found, oracle(&tape[place..], &announcements), "seed {seed}, place {place}: {text}");
-            places += 1;
-            refused += u64::from(found.is_none());
+fn keep(folder: &Path, seed: u64, tape: &[u8]) {
+    let mut lines = Vec::new();
+    program::read(tape, &mut lines, false).unwrap();
+    write(folder.join(format!("{seed}.tape")), tape).unwrap();
+    write(folder.join(format!("{seed}.read")), lines).unwrap();
+}
+
+/// Holds the reader to the oracle at every place that it comes to, and at one more.
+fn check(dice: &mut Dice, seed: u64, tape: &[u8], announcements: &HashSet<Vec<u8>>) -> Checked {
+    if let Some(folder) = std::env::var_os("KEEP") {
+        keep(Path::new(&folder), seed, tape);
+    }
+    let mut asked = vec![dice.below(1 + tape.len() as u64) as usize];
+    let mut place = 0;
+    while place < tape.len() {
+        asked.push(place);
+        match read(tape, place) {
+            Ok(print) => place += print.len,
+            Err(_) => break,
         }
     }
-    println!("seeds {seed} to {}: {places} places, {refused} without a print, as the oracle says", seed + tapes - 1);
+    let mut checked = Checked::default();
+    for place in asked {
+        let found = read(tape, place).ok().map(|print| (print.len, print.name, print.facts));
+        let text = String::from_utf8_lossy(&tape[place..]);
+        assert_eq!(found, oracle(&tape[place..], announcements), "seed {seed}, place {place}: {text}");
+        checked.places += 1;
+        checked.refused += u64::from(found.is_none());
+    }
+    checked
+}
+
+#[derive(Default)]
+struct Checked {
+    places: u64,
+    refused: u64,
+}
+
+/// Normal prints, damaged.
+fn damaged(dice: &mut Dice) -> Vec<u8> {
+    let made = random_prints(dice, 2);
+    let mut tape = made.iter().flat_map(|made| made.text.clone()).collect::<Vec<u8>>();
+    for _ in 0..dice.below(4) {
+        if !tape.is_empty() {
+            damage(dice, &mut tape);
+        }
+    }
+    tape
+}
+
+/// Parts of prints, lawful or nearly so, in the order of a print.
+fn composed(dice: &mut Dice) -> Vec<u8> {
+    const BEGINNINGS: [&str; 6] = ["", "", "<<CORR.", "<<CORR.", "<<CXL.", "<<ERR."];
+    const ROOTS: [&str; 8] = ["ABC", "ABC", "A", "ABCDEF", "ABCDEFG", "SHRS", "RULE", "ND"];
+    const PARTS: [&str; 16] =
+        ["", "", "", "", ".A", ".A.N", ".N", ".XD", ".XDIS", "pA", "pCV.CL", ".BC", ".DL", ".A.DL", "rw", ".pA"];
+    let begin = dice.pick(&BEGINNINGS);
+    let name = [dice.pick(&ROOTS), dice.pick(&PARTS), dice.pick(&PARTS)].concat();
+    let mut tape = [begin, &name, &composed_side(dice, true)].concat();
+    if begin == "<<CORR." || dice.below(10) == 0 {
+        let named = dice.below(2) == 0;
+        tape += "WAS.";
+        if named {
+            tape += if dice.below(10) == 0 { "ABC" } else { &name };
+        }
+        tape += &composed_side(dice, named);
+    }
+    tape += dice.pick(&[">>", ">>", ">>", "", ">", ">>>>", ">>PREV.LAST44>>"]);
+    tape.into_bytes()
+}
+
+fn composed_side(dice: &mut Dice, named: bool) -> String {
+    const AFTER_NAME: [&str; 9] = ["", "", "", ".ND", ".OPD", ".SLD", ".SLD.LAST", ".ND.SLD", ".LAST"];
+    const VOLUMES: [&str; 26] = [
+        "",
+        "",
+        "",
+        "2s",
+        "1s",
+        "99s",
+        "100s",
+        "10,000s",
+        "10,050s",
+        "10,050$",
+        "10,025$",
+        "3$",
+        "5$",
+        "999$",
+        "1000$",
+        "25SHRS",
+        "100SHRS",
+        "30SHRS",
+        "50SHRS",
+        "10,025SHRS",
+        "10,030SHRS",
+        "10,001SHRS",
+        "9999SHRS",
+        "9,999SHRS",
+        "1,000,000s",
+        "1,000,000,000s",
+    ];
+    const PRICES: [&str; 12] =
+        ["45", "45", "45", "45,5", "45,50", ",5", "45,000", ",0", "1234567", "0", "45,123456789", "100000,00000001"];
+    const CLOSING: [&[&str]; 6] = [
+        &[",c"],
+        &[",b"],
+        &["t"],
+        &["SELLER5", "SELLER999", "SELLER1000", "SELLER0"],
+        &["RULE127", "RULE127", "RULE128"],
+        &[">>PREV.LAST44>>", ">>PREV.LAST,5>>", ">>PREV.LAST0>>"],
+    ];
+    let mut side = String::new();
+    if named {
+        side += dice.pick(&AFTER_NAME);
+    }
+    side += dice.pick(&VOLUMES);
+    side += dice.pick(&PRICES);
+    for texts in CLOSING {
+        if dice.below(4) == 0 {
+            side += dice.pick(texts);
+        }
+    }
+    side
+}
+
+/// As many tapes as are asked for.
+fn check_all(what: &str, seed: u64, make: fn(&mut Dice) -> Vec<u8>) {
+    let tapes = setting("TAPES", 100);
+    let announcements = announcements();
+    let mut all = Checked::default();
+    for seed in seed..seed + tapes {
+        let mut dice = Dice(seed);
+        let tape = make(&mut dice);
+        let Checked { places, refused } = check(&mut dice, seed, &tape, &announcements);
+        all.places += places;
+        all.refused += refused;
+    }
+    let Checked { places, refused } = all;
+    println!(
+        "{what}, seeds {seed} to {}: {places} places, {refused} without a print, as the oracle says",
+        seed + tapes - 1
+    );
+}
+
+#[test]
+fn damaged_tapes() {
+    check_all("damaged tapes", setting("SEED", 1), damaged);
+}
+
+#[test]
+fn composed_tapes() {
+    check_all("composed tapes", setting("SEED", 1) + 1_000_000_000, composed);
 }
