@@ -68,6 +68,7 @@ fn names() {
     );
     check("", &["|ABC.pA45", "|ABCpCLw45", "|ABC.XD.N45", "|ABC.BC.DL45", "|ABC&45", "|abc45"]);
     check("ABCpCV.CL.XDIS.BC", &["ABCpCV.CL.XDIS.BC.ND.SLD.LAST45|"]);
+    check("ABCDEFpCV.CL.XDIS.DL", &["ABCDEFpCV.CL.XDIS.DL.ND.SLD.LAST45|"]);
     check("ND", &["ND.ND45|"]);
     check("RULEA", &["RULEA127|"]);
 }

@@ -474,14 +474,21 @@ fn damaged(dice: &mut Dice) -> Vec<u8> {
     tape
 }
 
+/// Mostly a lawful text, now and then an odd one.
+fn pick(dice: &mut Dice, lawful: &[&'static str], odd: &[&'static str]) -> &'static str {
+    let from = if dice.below(10) == 0 { odd } else { lawful };
+    dice.pick(from)
+}
+
 /// Parts of prints, lawful or nearly so, in the order of a print.
 fn composed(dice: &mut Dice) -> Vec<u8> {
-    const BEGINNINGS: [&str; 6] = ["", "", "<<CORR.", "<<CORR.", "<<CXL.", "<<ERR."];
-    const ROOTS: [&str; 8] = ["ABC", "ABC", "A", "ABCDEF", "ABCDEFG", "SHRS", "RULE", "ND"];
-    const PARTS: [&str; 16] =
-        ["", "", "", "", ".A", ".A.N", ".N", ".XD", ".XDIS", "pA", "pCV.CL", ".BC", ".DL", ".A.DL", "rw", ".pA"];
-    let begin = dice.pick(&BEGINNINGS);
-    let name = [dice.pick(&ROOTS), dice.pick(&PARTS), dice.pick(&PARTS)].concat();
+    let begin = dice.pick(&["", "<<CORR.", "<<CORR.", "<<CXL.", "<<ERR."]);
+    let name = [
+        pick(dice, &["ABC", "A", "ABCDEF", "ND"], &["ABCDEFG", "SHRS", "RULE", "SELLER", ""]),
+        pick(dice, &["", "", "", ".A", ".A.N", "pA", "pCV.CL", "rw"], &[".N", ".XD", ".XDIS", ".pA", ".ABC"]),
+        pick(dice, &["", "", "", ".BC", ".DL"], &[".N", "BC", ".LAST"]),
+    ]
+    .concat();
     let mut tape = [begin, &name, &composed_side(dice, true)].concat();
     if begin == "<<CORR." || dice.below(10) == 0 {
         let named = dice.below(2) == 0;
@@ -491,28 +498,24 @@ fn composed(dice: &mut Dice) -> Vec<u8> {
         }
         tape += &composed_side(dice, named);
     }
-    tape += dice.pick(&[">>", ">>", ">>", "", ">", ">>>>", ">>PREV.LAST44>>"]);
+    tape += pick(dice, &[">>", ">>", ">>PREV.LAST44>>"], &["", ">", ">>>>"]);
     tape.into_bytes()
 }
 
 fn composed_side(dice: &mut Dice, named: bool) -> String {
-    const AFTER_NAME: [&str; 9] = ["", "", "", ".ND", ".OPD", ".SLD", ".SLD.LAST", ".ND.SLD", ".LAST"];
-    const VOLUMES: [&str; 26] = [
+    const VOLUMES: [&str; 21] = [
+        "",
         "",
         "",
         "",
         "2s",
-        "1s",
         "99s",
-        "100s",
         "10,000s",
-        "10,050s",
         "10,050$",
         "10,025$",
         "3$",
         "5$",
         "999$",
-        "1000$",
         "25SHRS",
         "100SHRS",
         "30SHRS",
@@ -521,29 +524,30 @@ fn composed_side(dice: &mut Dice, named: bool) -> String {
         "10,030SHRS",
         "10,001SHRS",
         "9999SHRS",
-        "9,999SHRS",
         "1,000,000s",
-        "1,000,000,000s",
     ];
-    const PRICES: [&str; 12] =
-        ["45", "45", "45", "45,5", "45,50", ",5", "45,000", ",0", "1234567", "0", "45,123456789", "100000,00000001"];
-    const CLOSING: [&[&str]; 6] = [
-        &[",c"],
-        &[",b"],
-        &["t"],
-        &["SELLER5", "SELLER999", "SELLER1000", "SELLER0"],
-        &["RULE127", "RULE127", "RULE128"],
-        &[">>PREV.LAST44>>", ">>PREV.LAST,5>>", ">>PREV.LAST0>>"],
+    const ODD_VOLUMES: [&str; 6] = ["1s", "100s", "10,050s", "1000$", "9,999SHRS", "1,000,000,000s"];
+    const CLOSING: [[&[&str]; 2]; 6] = [
+        [&[",c"], &[",d"]],
+        [&[",b"], &[",0"]],
+        [&["t"], &["tt"]],
+        [&["SELLER5", "SELLER999"], &["SELLER1000", "SELLER0"]],
+        [&["RULE127"], &["RULE128"]],
+        [&[">>PREV.LAST44>>", ">>PREV.LAST,5>>"], &[">>PREV.LAST0>>", ">>PREV.LAST44"]],
     ];
     let mut side = String::new();
     if named {
-        side += dice.pick(&AFTER_NAME);
+        side += pick(dice, &["", "", ".ND", ".OPD", ".SLD", ".SLD.LAST", ".ND.SLD"], &[".LAST", ".SLD.ND"]);
     }
-    side += dice.pick(&VOLUMES);
-    side += dice.pick(&PRICES);
-    for texts in CLOSING {
-        if dice.below(4) == 0 {
-            side += dice.pick(texts);
+    side += pick(dice, &VOLUMES, &ODD_VOLUMES);
+    side += pick(
+        dice,
+        &["45", "45,5", "45,50", ",5", "100000,00000001"],
+        &["45,000", ",0", "1234567", "0", "45,123456789"],
+    );
+    for [lawful, odd] in CLOSING {
+        if dice.below(5) == 0 {
+            side += pick(dice, lawful, odd);
         }
     }
     side
