@@ -91,14 +91,14 @@ module _ (s m : State) (c : Lent) (b : List ℕ) (r : Answer) (t : Taken (s .set
   abbrev p : Plan
   p = asked (s .settings) (s .table) (s .names) (c .line) (length (c .tape))
 
-  link-tape : take (countOf (r .outcome)) b ≡ printOf (s .settings) (s .names) p
+  pub link-tape : take (countOf (r .outcome)) b ≡ printOf (s .settings) (s .names) p
   unfolding put
   link-tape =
       let text = printOf (s .settings) (s .names) p in
       let n : countOf (r .outcome) ≡ length text = ap countOf (t .outcome) ∙ count-is (s .settings) (s .names) p in
       ap (λ (k : ℕ). take k b) n ∙ (ap (take (length text)) (t .tape-is) ∙ take-at text (drop (length text) (c .tape)) (length text) refl)
 
-  link-sized : Sized s → Sized m
+  pub link-sized : Sized s → Sized m
   link-sized h =
       record {
         rows = ap length (t .table-is) ∙ table-length (s .table) p (h .rows);
@@ -184,9 +184,18 @@ module _ (s m : State) (c : Lent) (b : List ℕ) (r : Answer) (t : Taken (s .set
 
 -- ---- the whole list
 
-link-holds : (s m : State) (c : Lent) (b : List ℕ) (r : Answer) (t : Taken (s .settings) (s .table) (s .names) (c .line) (c .tape) (m .table) (m .names) b r) (kept : r .settings ≡ m .settings) (day : Day) → Sized s → Holds s day → (take (countOf (r .outcome)) b ≡ tapeOf day (callOf c)) × Holds m (after day (callOf c))
+pub link-holds : (s m : State) (c : Lent) (b : List ℕ) (r : Answer) (t : Taken (s .settings) (s .table) (s .names) (c .line) (c .tape) (m .table) (m .names) b r) (kept : r .settings ≡ m .settings) (day : Day) → Sized s → Holds s day → (take (countOf (r .outcome)) b ≡ tapeOf day (callOf c)) × Holds m (after day (callOf c))
 link-holds s m c b r t kept day z (held e) = let h = link-held s m c b r t kept day z e in (h .0, held (h .1))
 link-holds s m c b r t kept day z (undated e f) = rw f (first-tape s m c b r t kept e, first-holds s m c b r t kept e)
+
+-- the refusal, by what the state holds
+pub link-refusal : (s : State) (line : List ℕ) (room : ℕ) (day : Day) → Sized s → Holds s day → refusalOf day line room ≡ stopOf (asked (s .settings) (s .table) (s .names) line room)
+unfolding fresh
+link-refusal s line room day z (held e) = rw (← e) (by-rules (s .settings) (s .table) (s .names) line room (z .rows) (z .places) .refusal-is)
+link-refusal s line room day z (undated e f) =
+    rw (e, f)
+    (ap (λ (d : Day). refusalOf d line room) (sym (held-cleared 0))
+    ∙ (by-rules (opened 0) (replicate 5632 0) (replicate 9728 0) line room refl refl .refusal-is ∙ ap stopOf (same-asked line room (replicate 5632 0) (s .table) (replicate 9728 0) (s .names))))
 
 pub run-by-rules : {s e : State} {cs : List Lent} {out : List ℕ} → Run s cs e out → (day : Day) → Sized s → Holds s day → (out ≡ tapeFrom day cs) × Holds e (dayFrom day cs)
 unfolding tapeFrom dayFrom

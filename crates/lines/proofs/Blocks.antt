@@ -41,7 +41,7 @@ both false b h = absurd (let y : _≡_ {A = ℕ} 0 1 = cc in omega arith)
 module _ (tape refusals n k number : ℕ) (h : roomLeft tape refusals n k number ≡ true) where
   told-and-number : (leb 14 (refusals - k) ≡ true) × (leb number 9999999999 ≡ true)
   unfolding roomLeft
-  told-and-number = both (leb 14 (refusals - k)) (leb number 9999999999) (both (leb 200 (tape - n)) (leb 14 (refusals - k) && leb number 9999999999) h .1)
+  told-and-number = both (leb 14 (refusals - k)) (leb number 9999999999) (both (leb 400 (tape - n)) (leb 14 (refusals - k) && leb number 9999999999) h .1)
 
   room-told : 14 ≤ refusals - k
   room-told = leb-true 14 (refusals - k) (told-and-number .0)

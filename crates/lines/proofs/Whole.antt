@@ -90,11 +90,11 @@ lines-joined xs ys = rw (cut-joined xs ys, append-assoc)
 
 module _ (tape refusals : ℕ) where
   module _ (l : List ℕ) (ls : List (List ℕ)) (p : Progress) where
-    handed-on : roomLeft tape refusals (length (p .tape)) (length (p .refusals)) (p .number) ≡ true → handed tape refusals (l ∷ ls) p ≡ l ∷ handed tape refusals ls (lineTaken tape l p)
+    pub handed-on : roomLeft tape refusals (length (p .tape)) (length (p .refusals)) (p .number) ≡ true → handed tape refusals (l ∷ ls) p ≡ l ∷ handed tape refusals ls (lineTaken tape l p)
     unfolding handed
     handed-on e = rw (e, handed)
 
-    handed-off : roomLeft tape refusals (length (p .tape)) (length (p .refusals)) (p .number) ≡ false → handed tape refusals (l ∷ ls) p ≡ []
+    pub handed-off : roomLeft tape refusals (length (p .tape)) (length (p .refusals)) (p .number) ≡ false → handed tape refusals (l ∷ ls) p ≡ []
     unfolding handed
     handed-off e = rw (e, handed)
 

@@ -79,12 +79,12 @@ fn printed_length(o: Outcome) -> usize
     }
 }
 
-// Room for a print and a refusal, and a line number that is not past the last.
+// Room for any print (crate daytape: none is longer than 400 bytes) and a refusal, and a line number that is not past the last.
 fn room_left(f: Fed, tape: usize, refusals: usize) -> bool
     requires { ⌜ (f .tape ≤ tape) × (f .refusals ≤ refusals) ⌝ }
     ensures { λ r. ⌜ r ≡ roomLeft tape refusals (f .tape) (f .refusals) (f .number) ⌝ }
 {
-    if tape - f.tape < 200 {
+    if tape - f.tape < 400 {
         return false;
     }
     if refusals - f.refusals < 14 {
@@ -127,7 +127,7 @@ fn feed_line(
 
 // ---- a block
 
-// Each line of the block that a line feed ends, as long as 200 bytes are left of the lent tape, 14 of the lent refusals,
+// Each line of the block that a line feed ends, as long as 400 bytes are left of the lent tape, 14 of the lent refusals,
 // and the line's number is at most 9,999,999,999.
 pub fn feed(
     settings: Settings,

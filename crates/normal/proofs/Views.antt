@@ -93,7 +93,7 @@ unfolding pick
 either line true p q f g = f
 either line false p q f g = g
 
-of-kind : (kind : ℕ) (line : List ℕ) → Reads line (ofKind kind line)
+pub of-kind : (kind : ℕ) (line : List ℕ) → Reads line (ofKind kind line)
 unfolding ofKind levelRanged stepRanged
 of-kind kind line =
     either _ _ _ _ (λ f h. of-date _)

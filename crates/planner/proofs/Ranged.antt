@@ -44,7 +44,7 @@ sound-number : (n : ℕ) → isSecurityNumber n ≡ true → (1 ≤ n) × (n ≤
 unfolding isSecurityNumber between
 sound-number n h = (leb-true 1 n (and-left (leb 1 n) (leb n 512) h), leb-true n 512 (and-right (leb 1 n) (leb n 512) h))
 
-sound-side : (side : List ℕ) → sideRanged side ≡ true → Sound ((sideOf side) .price) × ((sideOf side) .previous .d ≤ 8)
+pub sound-side : (side : List ℕ) → sideRanged side ≡ true → Sound ((sideOf side) .price) × ((sideOf side) .previous .d ≤ 8)
 unfolding sideRanged sideOf rangedBy sideBy
 sound-side side h =
     let r = and-right (leb 1 (valueOf (volumeIn side))) _ h in

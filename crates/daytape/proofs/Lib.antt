@@ -1,0 +1,3 @@
+pub mod Most
+pub mod Room
+pub mod Tape
