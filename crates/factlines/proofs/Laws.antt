@@ -1,14 +1,52 @@
--- Parts of a block, and a line feed behind the last line. Assumes nothing.
-use Prim.Native.Nat.{ℕ, _+_, _≤_, _<_}
+-- Places in the block after lines are shown. Assumes nothing.
+use Prim.Native.Nat.{ℕ, _+_, _-_, _^_, _≤_, _<_}
 use native.Mathlib.Omega.{arith}
-use mathlib.Core.Path.{_≡_, sym}
-use mathlib.Core.List.{List}
-use lib.ListN.{length, take, set, length-set}
-use lib.Seq.{length-take-le}
+use mathlib.Core.Path.{_≡_, refl, sym, ap, _∙_}
+use mathlib.Core.Bool.{Bool, true, false}
+use mathlib.Core.List.{List, [], _∷_, _++_}
+use mir.Val.{Fits}
+use mir.Syntax.{w64}
+use lib.Dec.{leb}
+use lib.ListN.{length, take, drop, length-append, length-take}
+use Rattle.rules.specs.declared.Settings.{Settings}
+use Rattle.blocks.specs.Lines.{cut}
+use Rattle.lines.specs.Handed.{unlines}
+use Rattle.lines.proofs.Whole.{cut-whole}
+use Rattle.showing.specs.Shows.{Progress, started, lineShown, linesShown, blockShown, Stands}
+use Rattle.showing.specs.declared.Shown.{Shown}
+use Rattle.input.specs.State.{Within}
+use Rattle.input.specs.declared.State.{State}
 
-pub one-more : (block : List ℕ) (n c : ℕ) → n < length block → n + 1 ≤ length (set block n c)
-one-more block n c h = simp length-set (omega arith)
+-- no more bytes are read than the lines have
+shown-at : (room : ℕ) (ls : List (List ℕ)) (p : Progress) → linesShown room ls p .at ≤ p .at + length (unlines ls)
+unfolding linesShown lineShown unlines
+shown-at room [] p = omega arith
+shown-at room (l ∷ ls) p = go (leb 386 (room - length (p .facts))) refl (shown-at room ls (lineShown l p))
+  where
+    go : (b : Bool) → leb 386 (room - length (p .facts)) ≡ b → linesShown room ls (lineShown l p) .at ≤ lineShown l p .at + length (unlines ls) → linesShown room (l ∷ ls) p .at ≤ p .at + length (unlines (l ∷ ls))
+    go true e h = rw (e, linesShown) (omega (arith, h, length-append l (10 ∷ unlines ls)))
+    go false e h = rw (e, linesShown) (omega arith)
 
--- the first n bytes are n
-pub counted : (n : ℕ) (xs : List ℕ) → n ≤ length xs → n ≡ length (take n xs)
-counted n xs h = sym (length-take-le n xs h)
+block-at : (room : ℕ) (block : List ℕ) (p : Progress) → p .at ≡ 0 → blockShown room block p .at ≤ length block
+unfolding blockShown
+block-at room block p e = omega (arith, shown-at room (cut block .ended) p, ap length (cut-whole block), length-append (unlines (cut block .ended)) (cut block .rest))
+
+-- ---- after what stands between two places is shown
+
+module _ (s : State) (st : Settings) (block table names facts₀ table′ names′ facts : List ℕ) (f : Shown) (w : Within s (length block))
+    (shown : Stands facts₀ (blockShown (length facts₀) (take (s .have - s .at) (drop (s .at) block)) (started st table names)) table′ names′ facts f) where
+  next-place : s .at + f .at ≤ s .have
+  next-place =
+      omega (
+        arith,
+        shown .at-is,
+        block-at (length facts₀) (take (s .have - s .at) (drop (s .at) block)) (started st table names) refl,
+        length-take (s .have - s .at) (drop (s .at) block),
+        w .from-to,
+      )
+
+  pub next-fits : length block < 2 ^ 64 → Fits w64 (s .at + f .at)
+  next-fits h = record { fits = omega (arith, next-place, w .to-end) }
+
+  pub next-within : s .at + f .at ≤ s .have
+  next-within = next-place

@@ -1,70 +1,116 @@
-// The facts program: a day on standard input, the lines of its shown facts on standard output. A day has up to 262,143
-// bytes, some 2,500 lines; a longer one is not taken, and nothing is written.
-use libc::STDIN_FILENO;
+// The facts program: a day of any length on standard input, the lines of its shown facts on standard output. Input is read in
+// blocks; lines are shown as parts of a block.
+use input::State;
 use libc::STDOUT_FILENO;
-use rules::Settings;
-use showing::Shown;
 ghost use Prim.Native.Nat.{_≤_, _<_};
 ghost use lib.ListN.{length};
+ghost use Rattle.input.specs.State.{Within};
 
-// A last line that no line feed ends is a line too: it gets one. The answer is the day's length.
-fn closed(block: &mut [u8], n: usize) -> usize
-    requires { ⌜ n < length (now block) ⌝ }
-    ensures { λ r. ⌜ r ≤ length (now (block .exit)) ⌝ }
+// Writes what was gathered, and answers whether all of it was taken.
+fn write_out(facts: &[u8], n: usize) -> bool
+    requires { ⌜ n ≤ length (now facts) ⌝ }
 {
-    if n == 0 {
-        return 0;
-    }
-    if block[n - 1] == b'\n' {
-        return n;
-    }
-    block[n] = b'\n';
-    n + 1
+    io::write_all(STDOUT_FILENO, &facts[..n])
 }
 
-// The lines of the day's last `left` bytes, as many as there is room for, and what they show is written. The answer's place
-// is 0 where it cannot be.
-fn show_last(
-    settings: Settings,
+// The lines of what is left, as many as there is room for, and what they show is written.
+fn show_block(
+    s: State,
     table: &mut [u64; 5632],
     names: &mut [u8; 9728],
-    day: &[u8],
-    left: usize,
+    block: &[u8],
     facts: &mut [u8],
-) -> Shown
-    requires { ⌜ left ≤ length (now day) ⌝ }
+) -> State
+    requires { ⌜ Within s (length (now block)) ⌝ }
+    ensures { λ r. ⌜ Within r (length (now (block .entry))) ⌝ }
 {
-    let at = day.len() - left;
-    let mut s = showing::show_lines(settings, table, names, &day[at..], facts);
-    let n = s.facts;
-    if !io::write_all(STDOUT_FILENO, &facts[..n]) {
-        s.at = 0;
+    let at = s.at;
+    let have = s.have;
+    let settings = s.settings;
+    let f = showing::show_lines(settings, table, names, &block[at..have], facts);
+    let next = at + f.at;
+    if !write_out(facts, f.facts) {
+        return input::stopped(s);
     }
-    s
+    let after = f.settings;
+    input::gone_on(s, after, s.number, next)
 }
 
-// The whole day, from a fresh state.
-fn show_day(table: &mut [u64; 5632], names: &mut [u8; 9728], day: &[u8], facts: &mut [u8]) {
-    let mut settings = engine::fresh();
-    let mut left = day.len();
-    while 0 < left {
-        let s = show_last(settings, table, names, day, left, facts);
-        if s.at == 0 {
-            return;
-        }
-        if left < s.at {
-            return;
-        }
-        left -= s.at;
-        settings = s.settings;
+// All that is left as one line: the last line, or the first block of a line that is longer.
+fn show_rest(
+    s: State,
+    table: &mut [u64; 5632],
+    names: &mut [u8; 9728],
+    block: &[u8],
+    facts: &mut [u8],
+) -> State
+    requires { ⌜ Within s (length (now block)) ⌝ }
+    ensures { λ r. ⌜ Within r (length (now (block .entry))) ⌝ }
+{
+    let at = s.at;
+    let have = s.have;
+    let settings = s.settings;
+    let f = showing::show_last(settings, table, names, &block[at..have], facts);
+    if !write_out(facts, f.facts) {
+        return input::stopped(s);
     }
+    let after = f.settings;
+    input::all_taken(s, after, s.number)
 }
 
-fn run(table: &mut [u64; 5632], names: &mut [u8; 9728], block: &mut [u8], facts: &mut [u8]) {
-    let got = io::read_full(STDIN_FILENO, block);
-    if got < block.len() {
-        let n = closed(block, got);
-        show_day(table, names, &block[..n], facts);
+// No line feed is left: a block that is not full is filled up, any other is shown as a line.
+fn refill(
+    s: State,
+    table: &mut [u64; 5632],
+    names: &mut [u8; 9728],
+    block: &mut [u8],
+    facts: &mut [u8],
+) -> State
+    requires { ⌜ Within s (length (now block)) × (0 < length (now block)) ⌝ }
+    ensures { λ r. ⌜ Within r (length (now (block .exit))) ⌝ }
+{
+    if s.have - s.at < block.len() {
+        return input::read_more(s, block);
+    }
+    show_rest(s, table, names, block, facts)
+}
+
+// One turn: lines are shown and their facts are written, or the block is filled up.
+fn turn(
+    s: State,
+    table: &mut [u64; 5632],
+    names: &mut [u8; 9728],
+    block: &mut [u8],
+    facts: &mut [u8],
+) -> State
+    requires { ⌜ Within s (length (now block)) × (0 < length (now block)) ⌝ }
+    ensures { λ r. ⌜ Within r (length (now (block .exit))) ⌝ }
+{
+    if s.passing {
+        return input::pass(s, block);
+    }
+    let r = show_block(s, table, names, block, facts);
+    if !r.going {
+        return r;
+    }
+    if r.at != s.at {
+        return r;
+    }
+    refill(r, table, names, block, facts)
+}
+
+// Turns until the input ends; then what is left is the last line, if it has at least one byte.
+fn run(table: &mut [u64; 5632], names: &mut [u8; 9728], block: &mut [u8], facts: &mut [u8])
+    requires { ⌜ 0 < length (now block) ⌝ }
+{
+    let mut s = input::started();
+    let mut turns = u64::MAX;
+    while 0 < turns && s.going {
+        s = turn(s, table, names, block, facts);
+        turns -= 1;
+    }
+    if s.at < s.have {
+        show_rest(s, table, names, block, facts);
     }
 }
 

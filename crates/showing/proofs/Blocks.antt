@@ -6,6 +6,7 @@ use mathlib.Core.Bool.{Bool, true, false}
 use mathlib.Core.List.{List, [], _∷_}
 use lib.Dec.{leb}
 use lib.ListN.{length, take, drop, length-take, length-drop}
+use lib.Seq.{take-all}
 use borrow.Author.Tests.{le-leb, lt-leb}
 use Rattle.text.specs.Put.{put, Written}
 use Rattle.text.proofs.Writing.{written-nothing, length-put}
@@ -116,3 +117,22 @@ module _ (block facts₀ : List ℕ) (goal : Progress) (table names facts : List
             facts-same = facts-length z;
             onward = rw past (sym on ∙ (ap (λ (ls : List (List ℕ)). linesShown (length facts₀) ls (h .p)) (sym split) ∙ h .onward));
           }
+
+-- ---- one line that no line feed ends
+
+module _ (st : Settings) (line table names facts : List ℕ) where
+  abbrev here : Shown
+  here = record { settings = st; at = 0; facts = 0 }
+
+  start-stands : Stands facts (started st table names) table names facts here
+  start-stands = record { day-is = refl; at-is = refl; facts-is = written-nothing facts }
+
+  pub last-stop : length facts < 386 → Stands facts (linesShown (length facts) (line ∷ []) (started st table names)) table names facts here
+  last-stop h = rw (shown-off (length facts) line [] (started st table names) (omega arith)) start-stands
+
+  pub last-on : 386 ≤ length facts → (table′ names′ facts′ : List ℕ) (r : Shown) → Steps (take (length line - 0) (drop 0 line)) table names facts here table′ names′ facts′ r
+      → Stands facts (linesShown (length facts) (line ∷ []) (started st table names)) table′ names′ facts′ r
+  last-on h table′ names′ facts′ r w =
+      let on = shown-on (length facts) line [] (started st table names) (omega arith) ∙ shown-none (length facts) (lineShown line (started st table names)) in
+      let e : take (length line - 0) line ≡ line = take-all (length line - 0) line (omega arith) in
+      rw on (rw e at (w facts (started st table names) start-stands))

@@ -3,10 +3,11 @@
 use engine::Outcome;
 use rules::Settings;
 ghost use mathlib.Core.Path.{_≡_};
+ghost use mathlib.Core.List.{[], _∷_};
 ghost use Prim.Native.Nat.{_-_, _≤_};
 ghost use lib.ListN.{length, take, drop};
 ghost use Rattle.calls.specs.Run.{countOf};
-ghost use Rattle.showing.specs.Shows.{Shows, started, blockShown, Stands, Steps};
+ghost use Rattle.showing.specs.Shows.{Shows, started, linesShown, blockShown, Stands, Steps};
 
 // A call's settings, and how many bytes its entry's line has.
 struct Told {
@@ -107,4 +108,26 @@ pub fn show_lines(
         end = blocks::line_end(block, at);
     }
     s
+}
+
+// One line that no line feed ends.
+pub fn show_last(
+    settings: Settings,
+    table: &mut [u64; 5632],
+    names: &mut [u8; 9728],
+    line: &[u8],
+    facts: &mut [u8],
+) -> Shown
+    ensures { λ r. ⌜ Stands (now (facts .entry)) (linesShown (length (now (facts .entry))) (now (line .entry) ∷ []) (started settings (now (table .entry)) (now (names .entry)))) (now (table .exit)) (now (names .exit)) (now (facts .exit)) r ⌝ }
+{
+    let s = Shown {
+        settings: settings,
+        at: 0,
+        facts: 0,
+    };
+    if facts.len() < 386 {
+        return s;
+    }
+    let end = line.len();
+    show_line(s, table, names, line, end, facts)
 }

@@ -1,4 +1,5 @@
-use Rattle.day.proofs.Laws.{next-fits, next-within, end-within}
+use Rattle.input.proofs.Laws.{over-within, gone-within}
+use Rattle.day.proofs.Laws.{next-fits, next-within}
 use borrow.Author.Needs.{needs}
 use Rattle.day.proofs.feed_lines.Statement.{statement}
 use Rattle.day.proofs.feed_lines.Tie as tie
@@ -31,10 +32,10 @@ same-length-2 : tie.Need-same-length-2
 same-length-2 c = search needs
 
 returns : tie.Need-returns
-returns c = search needs
+returns c = search over-within
 
-fed-requires : tie.Need-fed-requires
-fed-requires c κs = search needs
+gone-on-requires : tie.Need-gone-on-requires
+gone-on-requires c κs = search needs
 
 same-length-3 : tie.Need-same-length-3
 same-length-3 c = search needs
@@ -43,7 +44,7 @@ same-length-4 : tie.Need-same-length-4
 same-length-4 c = search needs
 
 returns-2 : tie.Need-returns-2
-returns-2 c = let w = c .before .before .before .before .before .before .before .before .before .before .before .before .before .before .before .before .before .before .before .before .pre in record { from-to = search (next-within, w, c .before .before .before .before .before .before .before .before .before .before .feed .ensures); to-end = search (end-within, w) }
+returns-2 c = search (gone-within, next-within, c .before .before .before .before .before .before .before .before .before .before .before .before .before .before .before .before .before .before .before .before .before .pre, c .before .before .before .before .before .before .before .before .before .before .before .feed .ensures)
 
 pub feed-lines-spec : {M : Type 1} → statement M
 feed-lines-spec =
@@ -59,7 +60,7 @@ feed-lines-spec =
     same-length
     same-length-2
     returns
-    fed-requires
+    gone-on-requires
     same-length-3
     same-length-4
     returns-2)

@@ -1,4 +1,4 @@
-use Rattle.day.proofs.Laws.{end-at, end-within}
+use Rattle.input.proofs.Laws.{over-within, all-within}
 use borrow.Author.Needs.{needs}
 use Rattle.day.proofs.feed_rest.Statement.{statement}
 use Rattle.day.proofs.feed_rest.Tie as tie
@@ -28,10 +28,10 @@ same-length-2 : tie.Need-same-length-2
 same-length-2 c = search needs
 
 returns : tie.Need-returns
-returns c = search needs
+returns c = search over-within
 
-fed-requires : tie.Need-fed-requires
-fed-requires c κs = search needs
+all-taken-requires : tie.Need-all-taken-requires
+all-taken-requires c κs = search needs
 
 same-length-3 : tie.Need-same-length-3
 same-length-3 c = search needs
@@ -40,7 +40,7 @@ same-length-4 : tie.Need-same-length-4
 same-length-4 c = search needs
 
 returns-2 : tie.Need-returns-2
-returns-2 c = let w = c .before .before .before .before .before .before .before .before .before .before .before .before .before .before .before .before .before .before .before .pre in record { from-to = search (end-at, w); to-end = search (end-within, w) }
+returns-2 c = search (all-within, c .before .before .before .before .before .before .before .before .before .before .before .before .before .before .before .before .before .before .before .before .pre)
 
 pub feed-rest-spec : {M : Type 1} → statement M
 feed-rest-spec =
@@ -55,7 +55,7 @@ feed-rest-spec =
     same-length
     same-length-2
     returns
-    fed-requires
+    all-taken-requires
     same-length-3
     same-length-4
     returns-2)

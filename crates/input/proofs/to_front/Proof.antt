@@ -1,7 +1,7 @@
-use Rattle.day.proofs.Laws.{had, fronted}
+use Rattle.input.proofs.Laws.{had, fronted, front-is}
 use borrow.Author.Needs.{needs}
-use Rattle.day.proofs.to_front.Statement.{statement}
-use Rattle.day.proofs.to_front.Tie as tie
+use Rattle.input.proofs.to_front.Statement.{statement}
+use Rattle.input.proofs.to_front.Tie as tie
 
 slice-relend-prefix-move-front : tie.Need-slice-relend-prefix-move-front
 slice-relend-prefix-move-front c = search needs
@@ -16,7 +16,7 @@ same-length : tie.Need-same-length
 same-length c = search needs
 
 returns : tie.Need-returns
-returns c = search fronted
+returns c = (search fronted, search front-is)
 
 pub to-front-spec : {M : Type 1} → statement M
 to-front-spec =

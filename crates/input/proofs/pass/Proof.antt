@@ -1,7 +1,7 @@
-use Rattle.day.proofs.Laws.{had}
+use Rattle.input.proofs.Laws.{had}
 use borrow.Author.Needs.{needs}
-use Rattle.day.proofs.pass.Statement.{statement}
-use Rattle.day.proofs.pass.Tie as tie
+use Rattle.input.proofs.pass.Statement.{statement}
+use Rattle.input.proofs.pass.Tie as tie
 
 slice-reshare-prefix-line-end : tie.Need-slice-reshare-prefix-line-end
 slice-reshare-prefix-line-end c = search needs

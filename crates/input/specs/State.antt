@@ -1,0 +1,42 @@
+-- Where a program stands in its block of input. Assumes nothing.
+use Prim.Native.Nat.{ℕ, _-_, _≤_}
+use mathlib.Core.Path.{_≡_}
+use mathlib.Core.Bool.{true, false}
+use mathlib.Core.List.{List}
+use lib.ListN.{length, take, drop}
+use Rattle.rules.specs.Day.{opened}
+use Rattle.rules.specs.declared.Settings.{Settings}
+use Rattle.input.specs.declared.State.{State}
+
+-- before the first block: a fresh state, the first line
+unfoldable pub opening : State
+opening = record { settings = opened 0; number = 1; at = 0; have = 0; passing = false; going = true }
+
+-- nothing is left, and nothing comes
+unfoldable pub over : State → State
+over s = record { settings = s .settings; number = s .number; at = 0; have = 0; passing = s .passing; going = false }
+
+-- after lines up to a place
+unfoldable pub goneOn : State → Settings → ℕ → ℕ → State
+goneOn s settings number at = record { settings = settings; number = number; at = at; have = s .have; passing = s .passing; going = s .going }
+
+-- after all that is left was taken as one line; its rest, if more of it comes, is passed over
+unfoldable pub allTaken : State → Settings → ℕ → State
+allTaken s settings number = record { settings = settings; number = number; at = s .have; have = s .have; passing = true; going = s .going }
+
+-- the part that is not yet used lies in a block of n bytes
+pub record Within (s : State) (n : ℕ) : Type 0 where
+  pub from-to : s .at ≤ s .have
+  pub to-end : s .have ≤ n
+
+-- it: of the first `have` bytes of a block those from `at` on
+abbrev pub unread : State → List ℕ → List ℕ
+unread s block = drop (s .at) (take (s .have) block)
+
+-- more was read: what was not yet used is kept, before the bytes that came; nothing else of the state moved but whether there is more
+pub record More (s : State) (block : List ℕ) (r : State) (block′ : List ℕ) : Type 0 where
+  pub within : Within r (length block′)
+  pub kept : take (s .have - s .at) (unread r block′) ≡ unread s block
+  pub settings-same : r .settings ≡ s .settings
+  pub number-same : r .number ≡ s .number
+  pub passing-same : r .passing ≡ s .passing
