@@ -1,0 +1,35 @@
+-- What an outcome says as numbers, and a whole call on them. Assumes nothing.
+use Prim.Native.Nat.{ℕ}
+use mathlib.Core.Path.{_≡_, _∙_, ap}
+use mathlib.Core.List.{List}
+use Rattle.rules.specs.Refusal.{numberOf}
+use Rattle.rules.specs.declared.Refusal.{Refusal}
+use Rattle.rules.specs.declared.Settings.{Settings}
+use Rattle.engine.specs.declared.Outcome.{Outcome}
+use Rattle.engine.specs.declared.Outcome.the-variants.{Accepted, Refused}
+use Rattle.engine.specs.declared.Answer.{Answer}
+use Rattle.engine.specs.Taken.{Taken}
+use Rattle.calls.specs.Run.{countOf}
+use Rattle.exports.specs.Numbers.{numbersOf, settingsOf, answerOf, leftBy, TakenNumbers}
+
+pub left-accepted : (o : Outcome) (n : ℕ) (numbers numbers′ : List ℕ) (st : Settings) → o ≡ Accepted n → numbers′ ≡ numbersOf st → numbers′ ≡ leftBy o numbers st
+left-accepted o n numbers numbers′ st e f = rw e f
+
+pub answer-refused : (o : Outcome) (r : Refusal) (n : ℕ) → o ≡ Refused r → n ≡ numberOf r → n ≡ answerOf o
+answer-refused o r n e f = rw e f
+
+-- the engine's call on the settings that the numbers are
+pub taken-numbers : (numbers table names line tape numbers′ table′ names′ tape′ : List ℕ) (count answer : ℕ) (st : Settings) (a : Answer)
+    → st ≡ settingsOf numbers → Taken st table names line tape table′ names′ tape′ a
+    → numbers′ ≡ leftBy (a .outcome) numbers (a .settings) → count ≡ countOf (a .outcome) → answer ≡ answerOf (a .outcome)
+    → TakenNumbers numbers table names line tape numbers′ table′ names′ tape′ count answer
+taken-numbers numbers table names line tape numbers′ table′ names′ tape′ count answer st a e t left count-is answer-is =
+    let u : Taken (settingsOf numbers) table names line tape table′ names′ tape′ a = rw e at t in
+    record {
+      answer-is = answer-is ∙ ap answerOf (u .outcome);
+      count-is = count-is ∙ ap countOf (u .outcome);
+      numbers-are = rw (← u .outcome, ← u .settings) left;
+      table-is = u .table-is;
+      names-is = u .names-is;
+      tape-is = u .tape-is;
+    }

@@ -1,0 +1,118 @@
+// The engine and the reader for C and Rust: functions on numbers and lent memory, with no `requires`. An array of fixed size
+// passes as a pointer, a slice as a pointer and its length; what is lent for writing overlaps nothing else that is lent.
+use engine::Outcome;
+use rules::Mode;
+use rules::Settings;
+ghost use mathlib.Core.Path.{_≡_};
+ghost use Rattle.rules.specs.Day.{opened};
+ghost use Rattle.rules.specs.Line.{modeOf};
+ghost use Rattle.calls.specs.Run.{countOf};
+ghost use Rattle.exports.specs.Numbers.{letterOf, numbersOf, settingsOf, answerOf, leftBy, TakenNumbers};
+
+// ---- settings as four numbers
+
+fn letter_of(m: Mode) -> u64
+    ensures { λ r. ⌜ r ≡ letterOf m ⌝ }
+{
+    match m {
+        Mode::Normal => 78,
+        Mode::Dvd => 68,
+        Mode::Rpo => 82,
+        Mode::Mpv => 80,
+    }
+}
+
+fn mode_of(c: u64) -> Mode
+    ensures { λ r. ⌜ r ≡ modeOf c ⌝ }
+{
+    if c == 68 {
+        return Mode::Dvd;
+    }
+    if c == 82 {
+        return Mode::Rpo;
+    }
+    if c == 80 {
+        return Mode::Mpv;
+    }
+    Mode::Normal
+}
+
+fn settings_of(numbers: &[u64; 4]) -> Settings
+    ensures { λ r. ⌜ r ≡ settingsOf (now (numbers .entry)) ⌝ }
+{
+    let mode = mode_of(numbers[1]);
+    Settings {
+        date: numbers[0],
+        mode: mode,
+        level: numbers[2],
+        minimum: numbers[3],
+    }
+}
+
+fn numbers_of(st: Settings) -> [u64; 4]
+    ensures { λ r. ⌜ r ≡ numbersOf st ⌝ }
+{
+    let mode = st.mode;
+    [st.date, letter_of(mode), st.level, st.minimum]
+}
+
+// ---- what an outcome says
+
+fn answer_of(o: Outcome) -> u64
+    ensures { λ r. ⌜ r ≡ answerOf o ⌝ }
+{
+    match o {
+        Outcome::Accepted(_) => 0,
+        Outcome::Refused(x) => lines::number_of(x),
+    }
+}
+
+fn count_of(o: Outcome) -> u64
+    ensures { λ r. ⌜ r ≡ countOf o ⌝ }
+{
+    match o {
+        Outcome::Accepted(n) => n as u64,
+        Outcome::Refused(_) => 0,
+    }
+}
+
+// Settings are written only where the line is accepted.
+fn leave(numbers: &mut [u64; 4], o: Outcome, st: Settings)
+    ensures { λ r. ⌜ now (numbers .exit) ≡ leftBy o (now (numbers .entry)) st ⌝ }
+{
+    if let Outcome::Accepted(_) = o {
+        *numbers = numbers_of(st);
+    }
+}
+
+// ---- the exported functions
+
+// The settings of a fresh state: no D accepted yet.
+#[no_mangle]
+pub extern "C" fn lekphimon_fresh(settings: &mut [u64; 4])
+    ensures { λ r. ⌜ now (settings .exit) ≡ numbersOf (opened 0) ⌝ }
+{
+    *settings = numbers_of(engine::fresh());
+}
+
+// One call: the number of the refusal, 0 where the line is accepted, and in `count` the length of the print, 0 at a refusal.
+// A refused line leaves settings, tables and tape as they were.
+#[no_mangle]
+pub extern "C" fn lekphimon_take_line(
+    settings: &mut [u64; 4],
+    table: &mut [u64; 5632],
+    names: &mut [u8; 9728],
+    line: &[u8],
+    tape: &mut [u8],
+    count: &mut u64,
+) -> u64
+    ensures { λ r. ⌜ TakenNumbers (now (settings .entry)) (now (table .entry)) (now (names .entry)) (now (line .entry)) (now (tape .entry)) (now (settings .exit)) (now (table .exit)) (now (names .exit)) (now (tape .exit)) (now (count .exit)) r ⌝ }
+{
+    let st = settings_of(settings);
+    let answer = engine::take_line(st, table, names, line, tape);
+    let outcome = answer.outcome;
+    let after = answer.settings;
+    leave(settings, outcome, after);
+    *count = count_of(outcome);
+    answer_of(outcome)
+}
