@@ -58,3 +58,11 @@ pub record TakenNumbers (numbers table names line tape numbers′ table′ names
   pub table-is : table′ ≡ tableAfter table (asked (settingsOf numbers) table names line (length tape))
   pub names-is : names′ ≡ namesAfter names line (asked (settingsOf numbers) table names line (length tape))
   pub tape-is : tape′ ≡ put (printOf (settingsOf numbers) names (asked (settingsOf numbers) table names line (length tape))) tape
+
+-- nothing moved: what every refused line leaves (proofs/Calls, `refused-keeps`)
+pub record Kept (numbers table names tape numbers′ table′ names′ tape′ : List ℕ) (count : ℕ) : Type 0 where
+  pub numbers-kept : numbers′ ≡ numbers
+  pub table-kept : table′ ≡ table
+  pub names-kept : names′ ≡ names
+  pub tape-kept : tape′ ≡ tape
+  pub count-none : count ≡ 0
