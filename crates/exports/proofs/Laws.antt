@@ -10,7 +10,12 @@ use Rattle.engine.specs.declared.Outcome.the-variants.{Accepted, Refused}
 use Rattle.engine.specs.declared.Answer.{Answer}
 use Rattle.engine.specs.Taken.{Taken}
 use Rattle.calls.specs.Run.{countOf}
+use Rattle.reader.specs.declared.ReadAnswer.{ReadAnswer}
+use Rattle.reader.specs.declared.ReadAnswer.the-variants as read
+use Rattle.reader.specs.Read.{readAt}
+use Rattle.readout.specs.Numbers.{numbersAt}
 use Rattle.exports.specs.Numbers.{numbersOf, settingsOf, answerOf, leftBy, TakenNumbers}
+use Rattle.exports.specs.Reading.{readAnswer, ReadNumbers}
 
 pub left-accepted : (o : Outcome) (n : ℕ) (numbers numbers′ : List ℕ) (st : Settings) → o ≡ Accepted n → numbers′ ≡ numbersOf st → numbers′ ≡ leftBy o numbers st
 left-accepted o n numbers numbers′ st e f = rw e f
@@ -33,3 +38,11 @@ taken-numbers numbers table names line tape numbers′ table′ names′ tape′
       names-is = u .names-is;
       tape-is = u .tape-is;
     }
+
+-- ---- the reader
+
+pub read-refused : (r : ReadAnswer) (x : Refusal) (n : ℕ) → r ≡ read.Refused x → n ≡ numberOf x → n ≡ readAnswer r
+read-refused r x n e f = rw e f
+
+pub read-numbers : (tape : List ℕ) (place : ℕ) (r : ReadAnswer) (numbers′ : List ℕ) (answer : ℕ) → r ≡ readAt tape place → numbers′ ≡ numbersAt tape place → answer ≡ readAnswer r → ReadNumbers tape place numbers′ answer
+read-numbers tape place r numbers′ answer e f g = record { numbers-are = f; answer-is = rw (← e) g }

@@ -1,13 +1,16 @@
 // The engine and the reader for C and Rust: functions on numbers and lent memory, with no `requires`. An array of fixed size
 // passes as a pointer, a slice as a pointer and its length; what is lent for writing overlaps nothing else that is lent.
 use engine::Outcome;
+use reader::ReadAnswer;
 use rules::Mode;
 use rules::Settings;
 ghost use mathlib.Core.Path.{_≡_};
 ghost use Rattle.rules.specs.Day.{opened};
 ghost use Rattle.rules.specs.Line.{modeOf};
 ghost use Rattle.calls.specs.Run.{countOf};
+ghost use Rattle.reader.specs.Read.{readAt};
 ghost use Rattle.exports.specs.Numbers.{letterOf, numbersOf, settingsOf, answerOf, leftBy, TakenNumbers};
+ghost use Rattle.exports.specs.Reading.{readAnswer, ReadNumbers};
 
 // ---- settings as four numbers
 
@@ -85,6 +88,19 @@ fn leave(numbers: &mut [u64; 4], o: Outcome, st: Settings)
     }
 }
 
+fn read_answer(r: ReadAnswer) -> u64
+    ensures { λ n. ⌜ n ≡ readAnswer r ⌝ }
+{
+    match r {
+        ReadAnswer::Announcement(_) => 0,
+        ReadAnswer::Trade(_) => 0,
+        ReadAnswer::Cancel(_) => 0,
+        ReadAnswer::Error(_) => 0,
+        ReadAnswer::Correction(_) => 0,
+        ReadAnswer::Refused(x) => lines::number_of(x),
+    }
+}
+
 // ---- the exported functions
 
 // The settings of a fresh state: no D accepted yet.
@@ -115,4 +131,16 @@ pub extern "C" fn lekphimon_take_line(
     leave(settings, outcome, after);
     *count = count_of(outcome);
     answer_of(outcome)
+}
+
+// The reader at a place: 0 where a print stands there, 14 where none does; its fourteen numbers are those of `numbersAt`
+// (readout): length, the name's place in the print and its length, kind, and of each side price, letters, days, previous
+// last and volume.
+#[no_mangle]
+pub extern "C" fn lekphimon_read_at(tape: &[u8], place: usize, numbers: &mut [u64; 14]) -> u64
+    ensures { λ r. ⌜ ReadNumbers (now (tape .entry)) place (now (numbers .exit)) r ⌝ }
+{
+    let r = reader::read_at(tape, place);
+    *numbers = readout::numbers_of(tape, place, r);
+    read_answer(r)
 }
