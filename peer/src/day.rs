@@ -121,6 +121,11 @@ impl Day {
         Day { date: 0, settings: OPENING, table: Box::new([Security::NONE; 513]), names: HashSet::with_capacity(1024) }
     }
 
+    /// The last accepted date, 0 if none, the settings, and the table by security number.
+    pub fn state(&self) -> (u32, Settings, &[Security; 513]) {
+        (self.date, self.settings, &self.table)
+    }
+
     /// One line of any bytes and any length; its print goes to the start of the lent tape, and its length comes back.
     /// The bytes after the print keep their values.
     pub fn take_line(&mut self, line: &[u8], tape: &mut [u8]) -> Result<usize, Refusal> {
