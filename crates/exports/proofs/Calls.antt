@@ -3,7 +3,7 @@ use Prim.Native.Nat.{ℕ, _≤_}
 use native.Mathlib.Omega.{arith}
 use mathlib.Core.Path.{_≡_, refl, ap, _∙_}
 use mathlib.Core.List.{List}
-use lib.ListN.{length, drop}
+use lib.ListN.{length}
 use Rattle.text.specs.Pick.{pick}
 use Rattle.text.specs.Put.{put}
 use Rattle.rules.specs.Line.{modeOf}
@@ -12,9 +12,8 @@ use Rattle.rules.specs.declared.Mode.the-variants.{Normal, Dvd, Rpo, Mpv}
 use Rattle.rules.specs.declared.Settings.{Settings}
 use Rattle.planner.specs.declared.Plan.{Plan}
 use Rattle.planner.specs.declared.Plan.the-variants.{Stop, Open, Enter, Change, Level, Step, Print, Cancel, Correct}
-use Rattle.planprint.specs.Print.{printedName, textOf, printOf}
+use Rattle.planprint.specs.Print.{textOf, printOf}
 use Rattle.planstate.specs.After.{settingsAfter, tableAfter, namesAfter}
-use Rattle.engine.specs.declared.Outcome.{Outcome}
 use Rattle.engine.specs.Taken.{asked, outcomeOf, Taken}
 use Rattle.calls.specs.Run.{countOf}
 use Rattle.exports.specs.Numbers.{letterOf, numbersOf, settingsOf, answerOf, leftBy, outcomeAt, TakenNumbers, Kept}

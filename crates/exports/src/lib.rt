@@ -8,7 +8,6 @@ ghost use mathlib.Core.Path.{_≡_};
 ghost use Rattle.rules.specs.Day.{opened};
 ghost use Rattle.rules.specs.Line.{modeOf};
 ghost use Rattle.calls.specs.Run.{countOf};
-ghost use Rattle.reader.specs.Read.{readAt};
 ghost use Rattle.exports.specs.Numbers.{letterOf, numbersOf, settingsOf, answerOf, leftBy, TakenNumbers};
 ghost use Rattle.exports.specs.Reading.{readAnswer, ReadNumbers};
 

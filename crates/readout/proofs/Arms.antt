@@ -1,8 +1,7 @@
 -- The numbers of a side and of each answer of the reader. Assumes nothing.
 use Prim.Native.Nat.{ℕ, _+_, _-_}
-use mathlib.Core.Path.{_≡_, refl}
+use mathlib.Core.Path.{_≡_}
 use mathlib.Core.List.{List, _∷_}
-use lib.ListN.{drop}
 use Rattle.text.specs.Pick.{pick}
 use Rattle.rules.specs.Price.{units}
 use Rattle.rules.specs.Shown.{shownLetters, conditionsOf}
