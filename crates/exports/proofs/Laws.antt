@@ -2,9 +2,15 @@
 use Prim.Native.Nat.{ℕ}
 use mathlib.Core.Path.{_≡_, _∙_, ap}
 use mathlib.Core.List.{List}
+use Rattle.rules.specs.Day.{tapeOf}
 use Rattle.rules.specs.Refusal.{numberOf}
+use Rattle.rules.specs.Shown.{shownBy}
 use Rattle.rules.specs.declared.Refusal.{Refusal}
 use Rattle.rules.specs.declared.Settings.{Settings}
+use Rattle.table.specs.Rows.{dayOf}
+use Rattle.facts.specs.declared.Entry.{Entry}
+use Rattle.facts.specs.Entry.{factIn}
+use Rattle.factnumbers.specs.Numbers.{entryNumbers}
 use Rattle.engine.specs.declared.Outcome.{Outcome}
 use Rattle.engine.specs.declared.Outcome.the-variants.{Accepted, Refused}
 use Rattle.engine.specs.declared.Answer.{Answer}
@@ -38,6 +44,15 @@ taken-numbers numbers table names line tape numbers′ table′ names′ tape′
       names-is = u .names-is;
       tape-is = u .tape-is;
     }
+
+-- ---- shown facts
+
+pub shown-numbers : (numbers table names line : List ℕ) (room : ℕ) (st : Settings) (e : Entry) (numbers′ : List ℕ) → st ≡ settingsOf numbers
+    → factIn (tapeOf (dayOf st table names) (record { line = line; room = room })) e ≡ shownBy (dayOf st table names) (record { line = line; room = room })
+    → ((text : List ℕ) → numbers′ ≡ entryNumbers (factIn text e))
+    → numbers′ ≡ entryNumbers (shownBy (dayOf (settingsOf numbers) table names) (record { line = line; room = room }))
+shown-numbers numbers table names line room st e numbers′ g f h =
+    rw (← g) (h (tapeOf (dayOf st table names) (record { line = line; room = room })) ∙ ap entryNumbers f)
 
 -- ---- the reader
 

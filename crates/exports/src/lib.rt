@@ -6,8 +6,11 @@ use rules::Mode;
 use rules::Settings;
 ghost use mathlib.Core.Path.{_≡_};
 ghost use Rattle.rules.specs.Day.{opened};
+ghost use Rattle.rules.specs.Shown.{shownBy};
 ghost use Rattle.rules.specs.Line.{modeOf};
+ghost use Rattle.table.specs.Rows.{dayOf};
 ghost use Rattle.calls.specs.Run.{countOf};
+ghost use Rattle.factnumbers.specs.Numbers.{entryNumbers};
 ghost use Rattle.exports.specs.Numbers.{letterOf, numbersOf, settingsOf, answerOf, leftBy, TakenNumbers};
 ghost use Rattle.exports.specs.Reading.{readAnswer, ReadNumbers};
 
@@ -130,6 +133,25 @@ pub extern "C" fn lekphimon_take_line(
     leave(settings, outcome, after);
     *count = count_of(outcome);
     answer_of(outcome)
+}
+
+// What a call of `lekphimon_take_line` with this line and a tape of `room` bytes would add to the shown facts: the thirteen
+// numbers of `entryNumbers` (factnumbers): security, temporary suffix shown, kind, and of each side price, letters, days,
+// previous last and volume. Nothing of the day moves.
+#[no_mangle]
+pub extern "C" fn lekphimon_shown(
+    settings: &[u64; 4],
+    table: &[u64; 5632],
+    names: &[u8; 9728],
+    line: &[u8],
+    room: usize,
+    numbers: &mut [u64; 13],
+)
+    ensures { λ r. ⌜ now (numbers .exit) ≡ entryNumbers (shownBy (dayOf (settingsOf (now (settings .entry))) (now (table .entry)) (now (names .entry))) (record { line = now (line .entry); room = room })) ⌝ }
+{
+    let st = settings_of(settings);
+    let entry = facts::entry_of(st, table, names, line, room);
+    *numbers = factnumbers::numbers_of(entry);
 }
 
 // The reader at a place: 0 where a print stands there, 14 where none does; its fourteen numbers are those of `numbersAt`

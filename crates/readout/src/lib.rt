@@ -34,7 +34,7 @@ fn bit(there: bool, n: u64) -> u64
 }
 
 // O the lowest bit, then S L M K R B T J G.
-fn letters_number(x: Letters) -> u64
+pub fn letters_number(x: Letters) -> u64
     ensures { λ r. ⌜ r ≡ lettersNumber x ⌝ }
 {
     bit(x.o, 1)
@@ -65,7 +65,7 @@ fn side_numbers(x: Side) -> SideNumbers
     }
 }
 
-fn no_side() -> SideNumbers
+pub fn no_side() -> SideNumbers
     ensures { λ r. ⌜ r ≡ noSide ⌝ }
 {
     SideNumbers {
