@@ -38,29 +38,52 @@ uint64_t lekphimon_take_line(uint64_t settings[LEKPHIMON_SETTINGS], uint64_t tab
                              uint8_t names[LEKPHIMON_NAMES], const uint8_t *line, size_t line_length, uint8_t *tape,
                              size_t tape_length, uint64_t *count);
 
-/* Where the numbers of lekphimon_read_at stand. The first side is the only one but in a correction, where it is the
-   original and the second the correcting trade. */
+/* A side as five numbers, 0 for none. */
 enum {
-    LEKPHIMON_LENGTH,      /* of the print, in bytes */
-    LEKPHIMON_NAME_AT,     /* where in the print its undivided name begins */
-    LEKPHIMON_NAME_LENGTH, /* 0 at an announcement */
-    LEKPHIMON_KIND,        /* 'A' announcement, 'T' trade, 'X' cancel, 'E' error, 'C' correction */
-    LEKPHIMON_SIDE,        /* five numbers of the first side */
-    LEKPHIMON_PRICE = LEKPHIMON_SIDE, /* in units of 10^-8 dollars */
-    LEKPHIMON_LETTERS,     /* a bit for each letter of LEKPHIMON_LETTER_ORDER, the first the lowest */
-    LEKPHIMON_DAYS,        /* seller's days, 0 for none */
-    LEKPHIMON_PREVIOUS,    /* previous last, in units of 10^-8 dollars, 0 for none */
-    LEKPHIMON_VOLUME,
-    LEKPHIMON_CORRECTING,  /* the same five of the correcting trade */
-    LEKPHIMON_NUMBERS = LEKPHIMON_CORRECTING + 5
+    LEKPHIMON_PRICE,    /* in units of 10^-8 dollars */
+    LEKPHIMON_LETTERS,  /* a bit for each letter of LEKPHIMON_LETTER_ORDER, the first the lowest */
+    LEKPHIMON_DAYS,     /* seller's days */
+    LEKPHIMON_PREVIOUS, /* previous last, in units of 10^-8 dollars */
+    LEKPHIMON_VOLUME
 };
 
 /* The condition letters as a print shows them: N as M, C as K. */
 #define LEKPHIMON_LETTER_ORDER "OSLMKRBTJG"
 
+/* Where the numbers of lekphimon_shown stand. The first side is the only one but in a correction, where it is the original
+   and the second the correcting trade. A kind is 'A' announcement, 'T' trade, 'X' cancel, 'E' error, 'C' correction. */
+enum {
+    LEKPHIMON_SHOWN_SECURITY,                                /* its number, 0 at an announcement */
+    LEKPHIMON_SHOWN_TEMPORARY,                               /* 1: the temporary suffix is shown */
+    LEKPHIMON_SHOWN_KIND,                                    /* 0: nothing is shown */
+    LEKPHIMON_SHOWN_SIDE,                                    /* five numbers */
+    LEKPHIMON_SHOWN_CORRECTING = LEKPHIMON_SHOWN_SIDE + 5,   /* five more */
+    LEKPHIMON_SHOWN_NUMBERS = LEKPHIMON_SHOWN_CORRECTING + 5
+};
+
+/* What lekphimon_take_line would add to the shown facts with this line and a tape of `room` bytes; all numbers are 0 where
+   the line is refused or prints nothing. An announcement's text is the print. Outside normal mode a cancel, an error and a
+   correction show no price and no volume, and a trade a volume only if that put characters on the tape: 0 for none. Nothing
+   but `numbers` is written. */
+void lekphimon_shown(const uint64_t settings[LEKPHIMON_SETTINGS], const uint64_t table[LEKPHIMON_TABLE],
+                     const uint8_t names[LEKPHIMON_NAMES], const uint8_t *line, size_t line_length, size_t room,
+                     uint64_t numbers[LEKPHIMON_SHOWN_NUMBERS]);
+
+/* Where the numbers of lekphimon_read_at stand; kinds and sides as above. */
+enum {
+    LEKPHIMON_READ_LENGTH,      /* of the print, in bytes */
+    LEKPHIMON_READ_NAME_AT,     /* where in the print its undivided name begins */
+    LEKPHIMON_READ_NAME_LENGTH, /* 0 at an announcement */
+    LEKPHIMON_READ_KIND,
+    LEKPHIMON_READ_SIDE,                                   /* five numbers */
+    LEKPHIMON_READ_CORRECTING = LEKPHIMON_READ_SIDE + 5,   /* five more */
+    LEKPHIMON_READ_NUMBERS = LEKPHIMON_READ_CORRECTING + 5
+};
+
 /* The reader: the longest normal print at a place of a tape. Answers 0 where there is one, and then its numbers; 14 exactly
    where no normal print begins there or the place is past the end, and then all numbers are 0. */
-uint64_t lekphimon_read_at(const uint8_t *tape, size_t tape_length, size_t place, uint64_t numbers[LEKPHIMON_NUMBERS]);
+uint64_t lekphimon_read_at(const uint8_t *tape, size_t tape_length, size_t place,
+                           uint64_t numbers[LEKPHIMON_READ_NUMBERS]);
 
 #ifdef __cplusplus
 }

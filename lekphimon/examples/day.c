@@ -23,7 +23,7 @@ static uint8_t tape[1024];
 int main(void)
 {
     size_t written = 0;
-    uint64_t print[LEKPHIMON_NUMBERS];
+    uint64_t print[LEKPHIMON_READ_NUMBERS];
 
     lekphimon_fresh(settings);
     for (size_t i = 0; i < sizeof LINES / sizeof *LINES; i++) {
@@ -42,8 +42,9 @@ int main(void)
 
     if (lekphimon_read_at(tape, written, 0, print) != 0)
         return 1;
-    printf("%.*s price %" PRIu64 ".%08" PRIu64 " volume %" PRIu64 "\n", (int)print[LEKPHIMON_NAME_LENGTH],
-           (const char *)tape + print[LEKPHIMON_NAME_AT], print[LEKPHIMON_PRICE] / 100000000,
-           print[LEKPHIMON_PRICE] % 100000000, print[LEKPHIMON_VOLUME]);
+    const uint64_t *side = print + LEKPHIMON_READ_SIDE;
+    printf("%.*s price %" PRIu64 ".%08" PRIu64 " volume %" PRIu64 "\n", (int)print[LEKPHIMON_READ_NAME_LENGTH],
+           (const char *)tape + print[LEKPHIMON_READ_NAME_AT], side[LEKPHIMON_PRICE] / 100000000,
+           side[LEKPHIMON_PRICE] % 100000000, side[LEKPHIMON_VOLUME]);
     return 0;
 }

@@ -8,10 +8,11 @@
 pub const SETTINGS: usize = 4;
 pub const TABLE: usize = 5632;
 pub const NAMES: usize = 9728;
-pub const NUMBERS: usize = 14;
+pub const SHOWN: usize = 13;
+pub const READ: usize = 14;
 
 mod declared {
-    use super::{NAMES, NUMBERS, SETTINGS, TABLE};
+    use super::{NAMES, READ, SETTINGS, SHOWN, TABLE};
 
     extern "C" {
         pub fn lekphimon_fresh(settings: *mut [u64; SETTINGS]);
@@ -25,12 +26,16 @@ mod declared {
             tape_length: usize,
             count: *mut u64,
         ) -> u64;
-        pub fn lekphimon_read_at(
-            tape: *const u8,
-            tape_length: usize,
-            place: usize,
-            numbers: *mut [u64; NUMBERS],
-        ) -> u64;
+        pub fn lekphimon_shown(
+            settings: *const [u64; SETTINGS],
+            table: *const [u64; TABLE],
+            names: *const [u8; NAMES],
+            line: *const u8,
+            line_length: usize,
+            room: usize,
+            numbers: *mut [u64; SHOWN],
+        );
+        pub fn lekphimon_read_at(tape: *const u8, tape_length: usize, place: usize, numbers: *mut [u64; READ]) -> u64;
     }
 }
 
@@ -65,9 +70,23 @@ pub fn take_line(
     (answer, count)
 }
 
+/// The thirteen numbers.
+pub fn shown(
+    settings: &[u64; SETTINGS],
+    table: &[u64; TABLE],
+    names: &[u8; NAMES],
+    line: &[u8],
+    room: usize,
+) -> [u64; SHOWN] {
+    let mut numbers = [0; SHOWN];
+    // SAFETY: the arrays have the declared sizes, the slice goes with its own length, and all are borrowed for the call.
+    unsafe { declared::lekphimon_shown(settings, table, names, line.as_ptr(), line.len(), room, &mut numbers) };
+    numbers
+}
+
 /// The answer and the fourteen numbers.
-pub fn read_at(tape: &[u8], place: usize) -> (u64, [u64; NUMBERS]) {
-    let mut numbers = [0; NUMBERS];
+pub fn read_at(tape: &[u8], place: usize) -> (u64, [u64; READ]) {
+    let mut numbers = [0; READ];
     // SAFETY: the slice goes with its own length, and the array has the declared size.
     let answer = unsafe { declared::lekphimon_read_at(tape.as_ptr(), tape.len(), place, &mut numbers) };
     (answer, numbers)

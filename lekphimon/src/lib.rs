@@ -17,13 +17,17 @@
 //! assert_eq!((print.length, print.name), (10, &b"ABC"[..]));
 //! ```
 
+mod entry;
 mod exports;
 mod print;
 mod refusal;
+mod side;
 
+pub use entry::Entry;
 pub use exports::{NAMES, SETTINGS, TABLE};
-pub use print::{read_at, Facts, Letters, Print, Side};
+pub use print::{read_at, Facts, Print};
 pub use refusal::Refusal;
+pub use side::{Letters, Side};
 
 /// A day's state: settings as four numbers and two tables of 512 securities. Every value of them has a meaning, so any
 /// state may be made from its parts.

@@ -1,6 +1,7 @@
 //! The reader: the longest normal print at a place of a tape, its undivided name and its facts.
 
 use crate::exports;
+use crate::side::Side;
 
 /// The longest normal print at a place.
 #[derive(Clone, Copy, PartialEq, Eq, Debug)]
@@ -26,45 +27,6 @@ pub enum Facts<'a> {
     },
 }
 
-/// One side of a print.
-#[derive(Clone, Copy, PartialEq, Eq, Debug)]
-pub struct Side {
-    /// In units of ten to the power -8 dollars.
-    pub price: u64,
-    pub letters: Letters,
-    /// 0 for none.
-    pub days: u64,
-    /// Previous last, in units of ten to the power -8 dollars; 0 for none.
-    pub previous: u64,
-    pub volume: u64,
-}
-
-/// The set of condition letters as a print shows them, N as M and C as K.
-#[derive(Clone, Copy, PartialEq, Eq, Debug)]
-pub struct Letters(u64);
-
-impl Letters {
-    /// The letters from the lowest bit on.
-    pub const ORDER: &'static [u8; 10] = b"OSLMKRBTJG";
-
-    pub fn has(self, letter: u8) -> bool {
-        Letters::ORDER.iter().position(|&other| other == letter).is_some_and(|bit| self.0 >> bit & 1 == 1)
-    }
-
-    /// The letters of the set, in the order above.
-    pub fn iter(self) -> impl Iterator<Item = u8> {
-        Letters::ORDER.iter().copied().filter(move |&letter| self.has(letter))
-    }
-}
-
-/// Letters that are none of the ten are left out.
-impl FromIterator<u8> for Letters {
-    fn from_iter<I: IntoIterator<Item = u8>>(letters: I) -> Letters {
-        let place = |letter| Letters::ORDER.iter().position(|&other| other == letter);
-        Letters(letters.into_iter().filter_map(place).fold(0, |set, bit| set | 1 << bit))
-    }
-}
-
 /// The longest normal print at a place of a tape; None, document 01's refusal 14, exactly where no normal print begins there.
 pub fn read_at(tape: &[u8], place: usize) -> Option<Print<'_>> {
     let (answer, [length, from, name, kind, sides @ ..]) = exports::read_at(tape, place);
@@ -72,19 +34,13 @@ pub fn read_at(tape: &[u8], place: usize) -> Option<Print<'_>> {
         return None;
     }
     let text = &tape[place..][..length as usize];
-    let side = |at: usize| Side {
-        price: sides[at],
-        letters: Letters(sides[at + 1]),
-        days: sides[at + 2],
-        previous: sides[at + 3],
-        volume: sides[at + 4],
-    };
+    let [first, second] = Side::both(sides);
     let facts = match kind as u8 {
         b'A' => Facts::Announcement(text),
-        b'T' => Facts::Trade(side(0)),
-        b'X' => Facts::Cancel(side(0)),
-        b'E' => Facts::Error(side(0)),
-        b'C' => Facts::Correction { original: side(0), correcting: side(5) },
+        b'T' => Facts::Trade(first),
+        b'X' => Facts::Cancel(first),
+        b'E' => Facts::Error(first),
+        b'C' => Facts::Correction { original: first, correcting: second },
         _ => unreachable!("a print is of one of five kinds"),
     };
     Some(Print { length: text.len(), name: &text[from as usize..][..name as usize], facts })

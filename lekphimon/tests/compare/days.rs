@@ -1,13 +1,15 @@
-//! A random day, line by line: the outcome, the print and the state of both engines; after every refusal the day and the
+//! A random day, line by line: the outcome, the print, the shown facts and the state of both engines; after every refusal the day and the
 //! lent tape byte for byte as before.
 
 use std::fmt;
 
 use lekphimon::{Day, Refusal, NAMES};
 use peer::dice::Dice;
-use peer::lines::{Mode, Network};
+use peer::facts::Facts;
+use peer::lines::{Line, Mode, Network};
 use peer::trades::Security;
 
+use crate::entries::text;
 use crate::lines::Lines;
 
 #[derive(Default)]
@@ -32,6 +34,8 @@ impl fmt::Display for Counts {
 struct Both {
     day: Day,
     peer: peer::day::Day,
+    /// The peer's day once more, for the shown facts: it is handed the accepted lines.
+    facts: peer::day::Day,
     /// Columns 6 to 24 of the accepted S lines.
     names: Box<[u8; NAMES]>,
     tape: Vec<u8>,
@@ -40,8 +44,13 @@ struct Both {
 /// The tape of a random day, in whatever modes it had.
 pub fn compare(seed: u64, counts: &mut Counts) -> Vec<u8> {
     let mut lines = Lines::new(seed);
-    let mut both =
-        Both { day: Day::fresh(), peer: peer::day::Day::new(), names: Box::new([0; NAMES]), tape: Vec::new() };
+    let mut both = Both {
+        day: Day::fresh(),
+        peer: peer::day::Day::new(),
+        facts: peer::day::Day::new(),
+        names: Box::new([0; NAMES]),
+        tape: Vec::new(),
+    };
     // Now and then there are lines before the first D.
     let opening = lines.dice().below(40).saturating_sub(30);
     for number in 0..lines.count() {
@@ -94,18 +103,23 @@ impl Both {
         let before = self.day.clone();
         let lent: Vec<u8> = (0..room).map(|_| dice.below(256) as u8).collect();
         let (mut tape, mut other) = (lent.clone(), lent.clone());
+        let entry = self.day.shown(line, room);
         let answer = self.day.take_line(line, &mut tape);
         let expected = self.peer.take_line(line, &mut other);
         assert_eq!(answer.map_err(Refusal::number), expected.map_err(|refusal| refusal as u8), "{}", shown());
         assert_eq!(tape, other, "{}", shown());
         match answer {
             Err(_) => {
+                assert_eq!(entry, None, "a refused line shows: {}", shown());
                 assert!(self.day == before, "a refused line moved the day: {}", shown());
                 assert_eq!(tape, lent, "a refused line wrote: {}", shown());
             }
             Ok(len) => {
                 assert_eq!(tape[len..], lent[len..], "bytes behind the print: {}", shown());
                 self.tape.extend_from_slice(&tape[..len]);
+                let mut facts = Facts::default();
+                self.facts.take(Line::new(line).expect("it is accepted"), &mut facts).expect("it is accepted");
+                assert_eq!(text(entry, &tape[..len]), String::from_utf8_lossy(&facts.text), "{}", shown());
                 self.compare_after(line, shown);
             }
         }

@@ -2,6 +2,7 @@
 //! tapes of each kind, the first of seed SEED (1). The same arguments make the same run; it stops at the first difference.
 
 mod days;
+mod entries;
 mod lines;
 #[allow(dead_code)]
 #[path = "../../../peer/tests/random/mod.rs"]
