@@ -13,7 +13,7 @@ mod tapes;
 
 use std::time::Instant;
 
-/// Some minutes.
+/// A minute or two.
 const COUNT: u64 = 40_000;
 
 fn main() {
