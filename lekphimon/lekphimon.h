@@ -1,5 +1,6 @@
 /* The proved day engine and reader for the Low Speed Ticker, for C. `rt staticlib exports` builds
-   target/staticlib/libexports.a; the promises stand there as equations (crates/exports, crates/factnumbers, crates/readout) and here in words.
+   target/staticlib/libexports.a; the promises stand in crates/exports, crates/factnumbers and crates/readout as equations,
+   here in words.
 
    None of the functions requires anything of the values that it is handed: any line, any tape, any contents of the lent
    memory. The memory must be there: no pointer is NULL, also not one with length 0, and what a function writes to overlaps

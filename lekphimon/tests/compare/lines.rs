@@ -149,7 +149,7 @@ fn damage(dice: &mut Dice, line: &mut Vec<u8>) {
         3 => line[at] = b' ',
         4 => line[at] = b'0' + dice.below(10) as u8,
         5 => line.truncate(at),
-        6 => line.push(dice.pick(b"  0T\n")),
+        6 => line.resize(len + dice.pick(&[1, 1, 2, 100, 5_000]), dice.pick(b"  0T\n")),
         7 => line.swap(at, other),
         8 if len > 34 => (30..34).for_each(|column| line[column] = dice.pick(b"OSLNMCKBTRJG    ")),
         9 => line[0] = dice.pick(b"DSMVPTXECQ"),
