@@ -2,9 +2,12 @@
 use Prim.Native.Nat.{ℕ}
 use mathlib.Core.Path.{_≡_, _∙_, ap}
 use mathlib.Core.List.{List}
+use lib.ListN.{getD}
 use Rattle.rules.specs.Day.{tapeOf}
+use Rattle.rules.specs.Line.{modeOf}
 use Rattle.rules.specs.Refusal.{numberOf}
 use Rattle.rules.specs.Shown.{shownBy}
+use Rattle.rules.specs.declared.Mode.{Mode}
 use Rattle.rules.specs.declared.Refusal.{Refusal}
 use Rattle.rules.specs.declared.Settings.{Settings}
 use Rattle.table.specs.Rows.{dayOf}
@@ -22,6 +25,12 @@ use Rattle.reader.specs.Read.{readAt}
 use Rattle.readout.specs.Numbers.{numbersAt}
 use Rattle.exports.specs.Numbers.{numbersOf, settingsOf, answerOf, leftBy, TakenNumbers}
 use Rattle.exports.specs.Reading.{readAnswer, ReadNumbers}
+
+pub settings-are : (numbers : List ℕ) (m : Mode) → m ≡ modeOf (getD numbers 1 0) → _≡_ {A = Settings} (record { date = getD numbers 0 0; mode = m; level = getD numbers 2 0; minimum = getD numbers 3 0 }) (settingsOf numbers)
+settings-are numbers m e = rw e
+
+pub numbers-are : (st after : Settings) (numbers′ : List ℕ) → st ≡ after → numbers′ ≡ numbersOf st → numbers′ ≡ numbersOf after
+numbers-are st after numbers′ e f = rw (← e) f
 
 pub left-accepted : (o : Outcome) (n : ℕ) (numbers numbers′ : List ℕ) (st : Settings) → o ≡ Accepted n → numbers′ ≡ numbersOf st → numbers′ ≡ leftBy o numbers st
 left-accepted o n numbers numbers′ st e f = rw e f

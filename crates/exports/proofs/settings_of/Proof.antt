@@ -1,3 +1,4 @@
+use Rattle.exports.proofs.Laws.{settings-are}
 use borrow.Author.Needs.{needs}
 use Rattle.exports.proofs.settings_of.Statement.{statement}
 use Rattle.exports.proofs.settings_of.Tie as tie
@@ -18,7 +19,7 @@ element-copy-out-t13 : tie.Need-element-copy-out-t13
 element-copy-out-t13 c = search needs
 
 returns : tie.Need-returns
-returns c = cc
+returns c = search settings-are
 
 pub settings-of-spec : {M : Type 1} → statement M
 settings-of-spec =
