@@ -26,7 +26,7 @@ sideNumbers price c volume = record { price = price; letters = lettersNumber (c 
 abbrev pub noSide : SideNumbers
 noSide = record { price = 0; letters = 0; days = 0; previous = 0; volume = 0 }
 
--- a side of a normal print is in full
+-- a side of a normal print is in full; the shown facts (factnumbers) also have sides of conditions alone
 unfoldable pub partNumbers : Part → SideNumbers
 partNumbers (inFull price c volume) = sideNumbers price c volume
 partNumbers (bare c) = sideNumbers 0 c 0
