@@ -1,4 +1,4 @@
-/* Document 01's example day through the library: the tape, then the print at its start read back. */
+/* Document 01's example day through the library: what each line shows, the tape, then the print at its start read back. */
 #include <inttypes.h>
 #include <stdio.h>
 #include <string.h>
@@ -20,9 +20,16 @@ static uint64_t table[LEKPHIMON_TABLE];
 static uint8_t names[LEKPHIMON_NAMES];
 static uint8_t tape[1024];
 
+static void print_side(const uint64_t *side)
+{
+    printf(" price %" PRIu64 ".%08" PRIu64 " volume %" PRIu64 "\n", side[LEKPHIMON_PRICE] / 100000000,
+           side[LEKPHIMON_PRICE] % 100000000, side[LEKPHIMON_VOLUME]);
+}
+
 int main(void)
 {
     size_t written = 0;
+    uint64_t shown[LEKPHIMON_SHOWN_NUMBERS];
     uint64_t print[LEKPHIMON_READ_NUMBERS];
 
     lekphimon_fresh(settings);
@@ -32,6 +39,11 @@ int main(void)
 
         snprintf(line, sizeof line, "%-100s", LINES[i]);
         /* Each call is lent the rest of the tape. */
+        lekphimon_shown(settings, table, names, (const uint8_t *)line, strlen(line), sizeof tape - written, shown);
+        if (shown[LEKPHIMON_SHOWN_KIND] == 'T') {
+            printf("security %" PRIu64, shown[LEKPHIMON_SHOWN_SECURITY]);
+            print_side(shown + LEKPHIMON_SHOWN_SIDE);
+        }
         uint64_t answer = lekphimon_take_line(settings, table, names, (const uint8_t *)line, strlen(line),
                                               tape + written, sizeof tape - written, &count);
         if (answer != 0)
@@ -42,9 +54,7 @@ int main(void)
 
     if (lekphimon_read_at(tape, written, 0, print) != 0)
         return 1;
-    const uint64_t *side = print + LEKPHIMON_READ_SIDE;
-    printf("%.*s price %" PRIu64 ".%08" PRIu64 " volume %" PRIu64 "\n", (int)print[LEKPHIMON_READ_NAME_LENGTH],
-           (const char *)tape + print[LEKPHIMON_READ_NAME_AT], side[LEKPHIMON_PRICE] / 100000000,
-           side[LEKPHIMON_PRICE] % 100000000, side[LEKPHIMON_VOLUME]);
+    printf("%.*s", (int)print[LEKPHIMON_READ_NAME_LENGTH], (const char *)tape + print[LEKPHIMON_READ_NAME_AT]);
+    print_side(print + LEKPHIMON_READ_SIDE);
     return 0;
 }
