@@ -18,7 +18,7 @@ ghost use Rattle.prices.specs.Sound.{Sound};
 // ---- what prints
 
 // The prices differ by value.
-fn prices_differ(x: Side, y: Side) -> bool
+pub fn prices_differ(x: Side, y: Side) -> bool
     requires { ⌜ Sound (x .price) × Sound (y .price) ⌝ }
     ensures { λ r. ⌜ r ≡ pricesDiffer x y ⌝ }
 {
@@ -30,7 +30,7 @@ fn prices_differ(x: Side, y: Side) -> bool
 }
 
 // Prices differ and the correcting volume is at the level.
-fn differs_at_level(st: Settings, x: Side, y: Side) -> bool
+pub fn differs_at_level(st: Settings, x: Side, y: Side) -> bool
     requires { ⌜ Sound (x .price) × Sound (y .price) ⌝ }
     ensures { λ r. ⌜ r ≡ (pricesDiffer x y && atLevel st (y .volume)) ⌝ }
 {
@@ -66,7 +66,7 @@ fn either_seller(x: Letters, y: Letters) -> bool
 }
 
 // R on either side and prices differ.
-fn seller_differs(x: Side, y: Side) -> bool
+pub fn seller_differs(x: Side, y: Side) -> bool
     requires { ⌜ Sound (x .price) × Sound (y .price) ⌝ }
     ensures { λ r. ⌜ r ≡ ((x .letters .r || y .letters .r) && pricesDiffer x y) ⌝ }
 {
@@ -89,7 +89,7 @@ fn unlike_last(s: Security, value: u64) -> bool
 }
 
 // Qualifying for last with such a price.
-fn moves_last(s: Security, y: Side) -> bool
+pub fn moves_last(s: Security, y: Side) -> bool
     requires { ⌜ Sound (y .price) ⌝ }
     ensures { λ r. ⌜ r ≡ (forLast (y .letters) && unlikeLast s (units (y .price))) ⌝ }
 {
@@ -145,7 +145,7 @@ fn prints_in_rpo(st: Settings, s: Security, x: Side, y: Side) -> bool
 }
 
 // J or G on either side.
-fn either_rule(x: Side, y: Side) -> bool
+pub fn either_rule(x: Side, y: Side) -> bool
     ensures { λ r. ⌜ r ≡ (hasRule (x .letters) || hasRule (y .letters)) ⌝ }
 {
     let original = x.letters;
@@ -182,7 +182,7 @@ pub fn prints_correction(st: Settings, s: Security, x: Side, y: Side) -> bool
 
 // ---- full prices and volumes
 
-fn is_mpv(m: Mode) -> bool
+pub fn is_mpv(m: Mode) -> bool
     ensures { λ r. ⌜ r ≡ isMpv m ⌝ }
 {
     match m {
@@ -203,7 +203,7 @@ fn full_at(whole: u64) -> bool
 }
 
 // A whole part that ends in 0, or 1,000 or over.
-fn whole_in_full(x: Side) -> bool
+pub fn whole_in_full(x: Side) -> bool
     requires { ⌜ Sound (x .price) ⌝ }
     ensures { λ r. ⌜ r ≡ wholeInFull x ⌝ }
 {
@@ -225,7 +225,7 @@ fn tens_differ(x: Side, y: Side) -> bool
 }
 
 // The same, not in MPV.
-fn full_by_tens(st: Settings, x: Side, y: Side) -> bool
+pub fn full_by_tens(st: Settings, x: Side, y: Side) -> bool
     requires { ⌜ Sound (x .price) × Sound (y .price) ⌝ }
     ensures { λ r. ⌜ r ≡ (not (isMpv (st .mode)) && not (eqb (tens (wholePart (x .price))) (tens (wholePart (y .price))))) ⌝ }
 {
