@@ -1,0 +1,3 @@
+pub mod Fates
+pub mod Agree
+pub mod Exactly
