@@ -61,6 +61,16 @@ security-read line = go (isShaped line) (isKind (column 1 line)) (isFormed line)
     go true true true false = refl
     go true true true true = refl
 
+reading-small : (d : dayline.Reading) → SoundReading d → readSecurity d ≤ 512
+unfolding SoundReading readSecurity
+reading-small (reading.Refused r) h = omega arith
+reading-small (reading.Taken l) h = number-small l h
+
+-- the security of an explanation is one of the table's
+pub explained-small : (day : Day) (c : Call) → (explainedBy day c) .security ≤ 512
+unfolding explainedBy
+explained-small day c = rw (← security-read (c .line)) (reading-small (readingOf (c .line)) (sound-read (c .line)))
+
 -- ---- a line that nothing stops
 
 passed : (b : Bool) (r : Refusal) (o : Option Refusal) → refuse b r o ≡ none → (b ≡ false) × (o ≡ none)
