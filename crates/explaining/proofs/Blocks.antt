@@ -21,7 +21,7 @@ use Rattle.explaining.specs.declared.Told.{Told}
 -- ---- the equations of `linesExplained`
 
 module _ (room : ℕ) (l : List ℕ) (ls : List (List ℕ)) (p : Progress) where
-  explained-on : roomLeft room (length (p .text)) (p .number) ≡ true → linesExplained room (l ∷ ls) p ≡ linesExplained room ls (lineExplained l p)
+  pub explained-on : roomLeft room (length (p .text)) (p .number) ≡ true → linesExplained room (l ∷ ls) p ≡ linesExplained room ls (lineExplained l p)
   unfolding linesExplained
   explained-on e = rw (e, linesExplained)
 
@@ -29,14 +29,14 @@ module _ (room : ℕ) (l : List ℕ) (ls : List (List ℕ)) (p : Progress) where
   unfolding linesExplained
   explained-off e = rw (e, linesExplained)
 
-explained-none : (room : ℕ) (p : Progress) → linesExplained room [] p ≡ p
+pub explained-none : (room : ℕ) (p : Progress) → linesExplained room [] p ≡ p
 unfolding linesExplained
 explained-none room p = refl
 
 -- ---- the test of the room
 
 module _ (room n number : ℕ) where
-  room-some : 238 ≤ room - n → number ≤ 9999999999 → roomLeft room n number ≡ true
+  pub room-some : 238 ≤ room - n → number ≤ 9999999999 → roomLeft room n number ≡ true
   unfolding roomLeft
   room-some h k = rw (le-leb 238 (room - n) h, le-leb number 9999999999 k)
 
