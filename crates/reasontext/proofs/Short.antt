@@ -11,7 +11,7 @@ use Rattle.reasons.specs.Reasons.{someFull, someVolume}
 use Rattle.reasons.specs.declared.PrintReasons.{PrintReasons}
 use Rattle.reasons.specs.declared.FullReasons.{FullReasons}
 use Rattle.reasons.specs.declared.VolumeReasons.{VolumeReasons}
-use Rattle.reasontext.specs.Text.{byPrice, bySize, byChange, printReasons, priceWord, byDollars, byWhole, fullReasons, priceText, volumeWord, volumeReasons, volumeText, reasonsText}
+use Rattle.reasontext.specs.Text.{rangeReasons, firstReasons, unitReasons, lastReasons, printReasons, priceWord, tensReasons, wholeReasons, sideReasons, fullReasons, priceText, volumeWord, levelReasons, ruleReasons, volumeReasons, volumeText, reasonsText}
 
 opt-short : (b : Bool) (t : List ℕ) → length (opt b t) ≤ length t
 unfolding opt
@@ -24,7 +24,7 @@ word-short true t u n h k = h
 word-short false t u n h k = k
 
 print-short : (r : PrintReasons) → length (printReasons r) ≤ 104
-unfolding printReasons byPrice bySize byChange
+unfolding printReasons rangeReasons firstReasons unitReasons lastReasons
 print-short r =
     simp length-append
     (omega (
@@ -47,7 +47,7 @@ print-short r =
     ))
 
 price-short : (r : FullReasons) → length (priceText r) ≤ 67
-unfolding priceText priceWord fullReasons byDollars byWhole
+unfolding priceText priceWord fullReasons tensReasons wholeReasons sideReasons
 price-short r =
     simp length-append
     (omega (
@@ -65,7 +65,7 @@ price-short r =
     ))
 
 volume-short : (r : VolumeReasons) → length (volumeText r) ≤ 41
-unfolding volumeText volumeWord volumeReasons
+unfolding volumeText volumeWord volumeReasons levelReasons ruleReasons
 volume-short r =
     simp length-append
     (omega (

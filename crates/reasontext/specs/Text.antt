@@ -10,32 +10,37 @@ use Rattle.reasons.specs.declared.VolumeReasons.{VolumeReasons}
 
 -- ---- why it prints
 
-unfoldable pub byPrice : PrintReasons → List ℕ
-byPrice r = opt (r .every) (bytes ":every") ++ opt (r .high) (bytes ":high") ++ opt (r .low) (bytes ":low") ++ opt (r .price) (bytes ":price") ++ opt (r .distance) (bytes ":distance")
+unfoldable pub rangeReasons : PrintReasons → List ℕ
+rangeReasons r = opt (r .every) (bytes ":every") ++ opt (r .high) (bytes ":high") ++ opt (r .low) (bytes ":low") ++ opt (r .price) (bytes ":price")
 
-unfoldable pub bySize : PrintReasons → List ℕ
-bySize r = opt (r .first) (bytes ":first") ++ opt (r .six) (bytes ":six") ++ opt (r .level) (bytes ":level") ++ opt (r .unit) (bytes ":unit") ++ opt (r .rule) (bytes ":rule")
+unfoldable pub firstReasons : PrintReasons → List ℕ
+firstReasons r = opt (r .distance) (bytes ":distance") ++ opt (r .first) (bytes ":first") ++ opt (r .six) (bytes ":six") ++ opt (r .level) (bytes ":level")
 
--- of a correction
-unfoldable pub byChange : PrintReasons → List ℕ
-byChange r = opt (r .differ) (bytes ":differ") ++ opt (r .seller) (bytes ":seller") ++ opt (r .last) (bytes ":last") ++ opt (r .originallevel) (bytes ":original-level") ++ opt (r .originalrule) (bytes ":original-rule")
+unfoldable pub unitReasons : PrintReasons → List ℕ
+unitReasons r = opt (r .unit) (bytes ":unit") ++ opt (r .rule) (bytes ":rule") ++ opt (r .differ) (bytes ":differ") ++ opt (r .seller) (bytes ":seller")
+
+unfoldable pub lastReasons : PrintReasons → List ℕ
+lastReasons r = opt (r .last) (bytes ":last") ++ opt (r .originallevel) (bytes ":original-level") ++ opt (r .originalrule) (bytes ":original-rule")
 
 unfoldable pub printReasons : PrintReasons → List ℕ
-printReasons r = byPrice r ++ bySize r ++ byChange r
+printReasons r = rangeReasons r ++ firstReasons r ++ unitReasons r ++ lastReasons r
 
 -- ---- why its price is in full; short where there is no reason
 
 unfoldable pub priceWord : FullReasons → List ℕ
 priceWord r = pick (someFull r) (bytes "full") (bytes "short")
 
-unfoldable pub byDollars : FullReasons → List ℕ
-byDollars r = opt (r .normal) (bytes ":normal") ++ opt (r .none) (bytes ":none") ++ opt (r .tens) (bytes ":tens") ++ opt (r .zero) (bytes ":zero") ++ opt (r .unit) (bytes ":unit")
+unfoldable pub tensReasons : FullReasons → List ℕ
+tensReasons r = opt (r .normal) (bytes ":normal") ++ opt (r .none) (bytes ":none") ++ opt (r .tens) (bytes ":tens")
 
-unfoldable pub byWhole : FullReasons → List ℕ
-byWhole r = opt (r .thousand) (bytes ":thousand") ++ opt (r .six) (bytes ":six") ++ opt (r .whole) (bytes ":whole") ++ opt (r .original) (bytes ":original")
+unfoldable pub wholeReasons : FullReasons → List ℕ
+wholeReasons r = opt (r .zero) (bytes ":zero") ++ opt (r .unit) (bytes ":unit") ++ opt (r .thousand) (bytes ":thousand")
+
+unfoldable pub sideReasons : FullReasons → List ℕ
+sideReasons r = opt (r .six) (bytes ":six") ++ opt (r .whole) (bytes ":whole") ++ opt (r .original) (bytes ":original")
 
 unfoldable pub fullReasons : FullReasons → List ℕ
-fullReasons r = byDollars r ++ byWhole r
+fullReasons r = tensReasons r ++ wholeReasons r ++ sideReasons r
 
 unfoldable pub priceText : FullReasons → List ℕ
 priceText r = bytes " price=" ++ priceWord r ++ fullReasons r
@@ -45,8 +50,14 @@ priceText r = bytes " price=" ++ priceWord r ++ fullReasons r
 unfoldable pub volumeWord : VolumeReasons → List ℕ
 volumeWord r = pick (someVolume r) (bytes "shown") (bytes "off")
 
+unfoldable pub levelReasons : VolumeReasons → List ℕ
+levelReasons r = opt (r .normal) (bytes ":normal") ++ opt (r .level) (bytes ":level") ++ opt (r .first) (bytes ":first")
+
+unfoldable pub ruleReasons : VolumeReasons → List ℕ
+ruleReasons r = opt (r .six) (bytes ":six") ++ opt (r .rule) (bytes ":rule")
+
 unfoldable pub volumeReasons : VolumeReasons → List ℕ
-volumeReasons r = opt (r .normal) (bytes ":normal") ++ opt (r .level) (bytes ":level") ++ opt (r .first) (bytes ":first") ++ opt (r .six) (bytes ":six") ++ opt (r .rule) (bytes ":rule")
+volumeReasons r = levelReasons r ++ ruleReasons r
 
 unfoldable pub volumeText : VolumeReasons → List ℕ
 volumeText r = bytes " volume=" ++ volumeWord r ++ volumeReasons r

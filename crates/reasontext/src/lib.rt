@@ -14,50 +14,57 @@ ghost use Prim.Native.Nat.{_≤_};
 ghost use lib.ListN.{length};
 ghost use Rattle.text.specs.Put.{Written};
 ghost use Rattle.reasons.specs.Reasons.{someFull, someVolume};
-ghost use Rattle.reasontext.specs.Text.{byPrice, bySize, byChange, printReasons, priceWord, byDollars, byWhole, fullReasons, volumeWord, volumeReasons, priceText, volumeText, reasonsText};
+ghost use Rattle.reasontext.specs.Text.{rangeReasons, firstReasons, unitReasons, lastReasons, printReasons, priceWord, tensReasons, wholeReasons, sideReasons, fullReasons, priceText, volumeWord, levelReasons, ruleReasons, volumeReasons, volumeText, reasonsText};
 
 // ---- why it prints
 
-fn write_by_price(rest: &mut [u8], r: PrintReasons) -> usize
-    requires { ⌜ length (byPrice r) ≤ length (now rest) ⌝ }
-    ensures { λ n. ⌜ Written (byPrice r) (now (rest .entry)) (now (rest .exit)) n ⌝ }
+fn write_range_reasons(rest: &mut [u8], r: PrintReasons) -> usize
+    requires { ⌜ length (rangeReasons r) ≤ length (now rest) ⌝ }
+    ensures { λ n. ⌜ Written (rangeReasons r) (now (rest .entry)) (now (rest .exit)) n ⌝ }
 {
     let a = text::write_optional(rest, r.every, b":every");
     let b = a + text::write_optional(&mut rest[a..], r.high, b":high");
     let c = b + text::write_optional(&mut rest[b..], r.low, b":low");
-    let d = c + text::write_optional(&mut rest[c..], r.price, b":price");
-    d + text::write_optional(&mut rest[d..], r.distance, b":distance")
+    c + text::write_optional(&mut rest[c..], r.price, b":price")
 }
 
-fn write_by_size(rest: &mut [u8], r: PrintReasons) -> usize
-    requires { ⌜ length (bySize r) ≤ length (now rest) ⌝ }
-    ensures { λ n. ⌜ Written (bySize r) (now (rest .entry)) (now (rest .exit)) n ⌝ }
+fn write_first_reasons(rest: &mut [u8], r: PrintReasons) -> usize
+    requires { ⌜ length (firstReasons r) ≤ length (now rest) ⌝ }
+    ensures { λ n. ⌜ Written (firstReasons r) (now (rest .entry)) (now (rest .exit)) n ⌝ }
 {
-    let a = text::write_optional(rest, r.first, b":first");
-    let b = a + text::write_optional(&mut rest[a..], r.six, b":six");
-    let c = b + text::write_optional(&mut rest[b..], r.level, b":level");
-    let d = c + text::write_optional(&mut rest[c..], r.unit, b":unit");
-    d + text::write_optional(&mut rest[d..], r.rule, b":rule")
+    let a = text::write_optional(rest, r.distance, b":distance");
+    let b = a + text::write_optional(&mut rest[a..], r.first, b":first");
+    let c = b + text::write_optional(&mut rest[b..], r.six, b":six");
+    c + text::write_optional(&mut rest[c..], r.level, b":level")
 }
 
-fn write_by_change(rest: &mut [u8], r: PrintReasons) -> usize
-    requires { ⌜ length (byChange r) ≤ length (now rest) ⌝ }
-    ensures { λ n. ⌜ Written (byChange r) (now (rest .entry)) (now (rest .exit)) n ⌝ }
+fn write_unit_reasons(rest: &mut [u8], r: PrintReasons) -> usize
+    requires { ⌜ length (unitReasons r) ≤ length (now rest) ⌝ }
+    ensures { λ n. ⌜ Written (unitReasons r) (now (rest .entry)) (now (rest .exit)) n ⌝ }
 {
-    let a = text::write_optional(rest, r.differ, b":differ");
-    let b = a + text::write_optional(&mut rest[a..], r.seller, b":seller");
-    let c = b + text::write_optional(&mut rest[b..], r.last, b":last");
-    let d = c + text::write_optional(&mut rest[c..], r.originallevel, b":original-level");
-    d + text::write_optional(&mut rest[d..], r.originalrule, b":original-rule")
+    let a = text::write_optional(rest, r.unit, b":unit");
+    let b = a + text::write_optional(&mut rest[a..], r.rule, b":rule");
+    let c = b + text::write_optional(&mut rest[b..], r.differ, b":differ");
+    c + text::write_optional(&mut rest[c..], r.seller, b":seller")
+}
+
+fn write_last_reasons(rest: &mut [u8], r: PrintReasons) -> usize
+    requires { ⌜ length (lastReasons r) ≤ length (now rest) ⌝ }
+    ensures { λ n. ⌜ Written (lastReasons r) (now (rest .entry)) (now (rest .exit)) n ⌝ }
+{
+    let a = text::write_optional(rest, r.last, b":last");
+    let b = a + text::write_optional(&mut rest[a..], r.originallevel, b":original-level");
+    b + text::write_optional(&mut rest[b..], r.originalrule, b":original-rule")
 }
 
 fn write_print_reasons(rest: &mut [u8], r: PrintReasons) -> usize
     requires { ⌜ length (printReasons r) ≤ length (now rest) ⌝ }
     ensures { λ n. ⌜ Written (printReasons r) (now (rest .entry)) (now (rest .exit)) n ⌝ }
 {
-    let a = write_by_price(rest, r);
-    let b = a + write_by_size(&mut rest[a..], r);
-    b + write_by_change(&mut rest[b..], r)
+    let a = write_range_reasons(rest, r);
+    let b = a + write_first_reasons(&mut rest[a..], r);
+    let c = b + write_unit_reasons(&mut rest[b..], r);
+    c + write_last_reasons(&mut rest[c..], r)
 }
 
 // ---- why its price is in full
@@ -108,33 +115,40 @@ fn write_price_word(rest: &mut [u8], r: FullReasons) -> usize
     text::write_bytes(rest, b"short")
 }
 
-fn write_by_dollars(rest: &mut [u8], r: FullReasons) -> usize
-    requires { ⌜ length (byDollars r) ≤ length (now rest) ⌝ }
-    ensures { λ n. ⌜ Written (byDollars r) (now (rest .entry)) (now (rest .exit)) n ⌝ }
+fn write_tens_reasons(rest: &mut [u8], r: FullReasons) -> usize
+    requires { ⌜ length (tensReasons r) ≤ length (now rest) ⌝ }
+    ensures { λ n. ⌜ Written (tensReasons r) (now (rest .entry)) (now (rest .exit)) n ⌝ }
 {
     let a = text::write_optional(rest, r.normal, b":normal");
     let b = a + text::write_optional(&mut rest[a..], r.none, b":none");
-    let c = b + text::write_optional(&mut rest[b..], r.tens, b":tens");
-    let d = c + text::write_optional(&mut rest[c..], r.zero, b":zero");
-    d + text::write_optional(&mut rest[d..], r.unit, b":unit")
+    b + text::write_optional(&mut rest[b..], r.tens, b":tens")
 }
 
-fn write_by_whole(rest: &mut [u8], r: FullReasons) -> usize
-    requires { ⌜ length (byWhole r) ≤ length (now rest) ⌝ }
-    ensures { λ n. ⌜ Written (byWhole r) (now (rest .entry)) (now (rest .exit)) n ⌝ }
+fn write_whole_reasons(rest: &mut [u8], r: FullReasons) -> usize
+    requires { ⌜ length (wholeReasons r) ≤ length (now rest) ⌝ }
+    ensures { λ n. ⌜ Written (wholeReasons r) (now (rest .entry)) (now (rest .exit)) n ⌝ }
 {
-    let a = text::write_optional(rest, r.thousand, b":thousand");
-    let b = a + text::write_optional(&mut rest[a..], r.six, b":six");
-    let c = b + text::write_optional(&mut rest[b..], r.whole, b":whole");
-    c + text::write_optional(&mut rest[c..], r.original, b":original")
+    let a = text::write_optional(rest, r.zero, b":zero");
+    let b = a + text::write_optional(&mut rest[a..], r.unit, b":unit");
+    b + text::write_optional(&mut rest[b..], r.thousand, b":thousand")
+}
+
+fn write_side_reasons(rest: &mut [u8], r: FullReasons) -> usize
+    requires { ⌜ length (sideReasons r) ≤ length (now rest) ⌝ }
+    ensures { λ n. ⌜ Written (sideReasons r) (now (rest .entry)) (now (rest .exit)) n ⌝ }
+{
+    let a = text::write_optional(rest, r.six, b":six");
+    let b = a + text::write_optional(&mut rest[a..], r.whole, b":whole");
+    b + text::write_optional(&mut rest[b..], r.original, b":original")
 }
 
 fn write_full_reasons(rest: &mut [u8], r: FullReasons) -> usize
     requires { ⌜ length (fullReasons r) ≤ length (now rest) ⌝ }
     ensures { λ n. ⌜ Written (fullReasons r) (now (rest .entry)) (now (rest .exit)) n ⌝ }
 {
-    let a = write_by_dollars(rest, r);
-    a + write_by_whole(&mut rest[a..], r)
+    let a = write_tens_reasons(rest, r);
+    let b = a + write_whole_reasons(&mut rest[a..], r);
+    b + write_side_reasons(&mut rest[b..], r)
 }
 
 fn write_price(rest: &mut [u8], r: FullReasons) -> usize
@@ -176,15 +190,29 @@ fn write_volume_word(rest: &mut [u8], r: VolumeReasons) -> usize
     text::write_bytes(rest, b"off")
 }
 
+fn write_level_reasons(rest: &mut [u8], r: VolumeReasons) -> usize
+    requires { ⌜ length (levelReasons r) ≤ length (now rest) ⌝ }
+    ensures { λ n. ⌜ Written (levelReasons r) (now (rest .entry)) (now (rest .exit)) n ⌝ }
+{
+    let a = text::write_optional(rest, r.normal, b":normal");
+    let b = a + text::write_optional(&mut rest[a..], r.level, b":level");
+    b + text::write_optional(&mut rest[b..], r.first, b":first")
+}
+
+fn write_rule_reasons(rest: &mut [u8], r: VolumeReasons) -> usize
+    requires { ⌜ length (ruleReasons r) ≤ length (now rest) ⌝ }
+    ensures { λ n. ⌜ Written (ruleReasons r) (now (rest .entry)) (now (rest .exit)) n ⌝ }
+{
+    let a = text::write_optional(rest, r.six, b":six");
+    a + text::write_optional(&mut rest[a..], r.rule, b":rule")
+}
+
 fn write_volume_reasons(rest: &mut [u8], r: VolumeReasons) -> usize
     requires { ⌜ length (volumeReasons r) ≤ length (now rest) ⌝ }
     ensures { λ n. ⌜ Written (volumeReasons r) (now (rest .entry)) (now (rest .exit)) n ⌝ }
 {
-    let a = text::write_optional(rest, r.normal, b":normal");
-    let b = a + text::write_optional(&mut rest[a..], r.level, b":level");
-    let c = b + text::write_optional(&mut rest[b..], r.first, b":first");
-    let d = c + text::write_optional(&mut rest[c..], r.six, b":six");
-    d + text::write_optional(&mut rest[d..], r.rule, b":rule")
+    let a = write_level_reasons(rest, r);
+    a + write_rule_reasons(&mut rest[a..], r)
 }
 
 fn write_volume(rest: &mut [u8], r: VolumeReasons) -> usize

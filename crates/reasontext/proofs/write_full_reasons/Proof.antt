@@ -4,22 +4,38 @@ use borrow.Author.Needs.{needs}
 use Rattle.reasontext.proofs.write_full_reasons.Statement.{statement}
 use Rattle.reasontext.proofs.write_full_reasons.Tie as tie
 
-write-by-dollars-requires : tie.Need-write-by-dollars-requires
+write-tens-reasons-requires : tie.Need-write-tens-reasons-requires
 unfolding fullReasons
-write-by-dollars-requires c κs = search rooms depth 40
+write-tens-reasons-requires c κs = search rooms depth 24
 
-sub-write-by-whole : tie.Need-sub-write-by-whole
-sub-write-by-whole c = search needs
+sub-write-whole-reasons : tie.Need-sub-write-whole-reasons
+sub-write-whole-reasons c = search needs
 
-part-write-by-whole-start : tie.Need-part-write-by-whole-start
-part-write-by-whole-start c = search needs
+part-write-whole-reasons-start : tie.Need-part-write-whole-reasons-start
+part-write-whole-reasons-start c = search needs
 
-part-write-by-whole-end : tie.Need-part-write-by-whole-end
-part-write-by-whole-end c = search needs
+part-write-whole-reasons-end : tie.Need-part-write-whole-reasons-end
+part-write-whole-reasons-end c = search needs
 
-write-by-whole-requires : tie.Need-write-by-whole-requires
+write-whole-reasons-requires : tie.Need-write-whole-reasons-requires
 unfolding fullReasons
-write-by-whole-requires c κs = search rooms depth 40
+write-whole-reasons-requires c κs = search rooms depth 24
+
+add-b : tie.Need-add-b
+add-b c = search needs
+
+sub-write-side-reasons : tie.Need-sub-write-side-reasons
+sub-write-side-reasons c = search needs
+
+part-write-side-reasons-start : tie.Need-part-write-side-reasons-start
+part-write-side-reasons-start c = search needs
+
+part-write-side-reasons-end : tie.Need-part-write-side-reasons-end
+part-write-side-reasons-end c = search needs
+
+write-side-reasons-requires : tie.Need-write-side-reasons-requires
+unfolding fullReasons
+write-side-reasons-requires c κs = search rooms depth 24
 
 add-result : tie.Need-add-result
 add-result c = search needs
@@ -35,11 +51,16 @@ pub write-full-reasons-spec : {M : Type 1} → statement M
 write-full-reasons-spec =
     tie.close
     (tie.spec
-    write-by-dollars-requires
-    sub-write-by-whole
-    part-write-by-whole-start
-    part-write-by-whole-end
-    write-by-whole-requires
+    write-tens-reasons-requires
+    sub-write-whole-reasons
+    part-write-whole-reasons-start
+    part-write-whole-reasons-end
+    write-whole-reasons-requires
+    add-b
+    sub-write-side-reasons
+    part-write-side-reasons-start
+    part-write-side-reasons-end
+    write-side-reasons-requires
     add-result
     same-length
     returns)

@@ -4,38 +4,54 @@ use borrow.Author.Needs.{needs}
 use Rattle.reasontext.proofs.write_print_reasons.Statement.{statement}
 use Rattle.reasontext.proofs.write_print_reasons.Tie as tie
 
-write-by-price-requires : tie.Need-write-by-price-requires
+write-range-reasons-requires : tie.Need-write-range-reasons-requires
 unfolding printReasons
-write-by-price-requires c κs = search rooms depth 40
+write-range-reasons-requires c κs = search rooms depth 24
 
-sub-write-by-size : tie.Need-sub-write-by-size
-sub-write-by-size c = search needs
+sub-write-first-reasons : tie.Need-sub-write-first-reasons
+sub-write-first-reasons c = search needs
 
-part-write-by-size-start : tie.Need-part-write-by-size-start
-part-write-by-size-start c = search needs
+part-write-first-reasons-start : tie.Need-part-write-first-reasons-start
+part-write-first-reasons-start c = search needs
 
-part-write-by-size-end : tie.Need-part-write-by-size-end
-part-write-by-size-end c = search needs
+part-write-first-reasons-end : tie.Need-part-write-first-reasons-end
+part-write-first-reasons-end c = search needs
 
-write-by-size-requires : tie.Need-write-by-size-requires
+write-first-reasons-requires : tie.Need-write-first-reasons-requires
 unfolding printReasons
-write-by-size-requires c κs = search rooms depth 40
+write-first-reasons-requires c κs = search rooms depth 24
 
 add-b : tie.Need-add-b
 add-b c = search needs
 
-sub-write-by-change : tie.Need-sub-write-by-change
-sub-write-by-change c = search needs
+sub-write-unit-reasons : tie.Need-sub-write-unit-reasons
+sub-write-unit-reasons c = search needs
 
-part-write-by-change-start : tie.Need-part-write-by-change-start
-part-write-by-change-start c = search needs
+part-write-unit-reasons-start : tie.Need-part-write-unit-reasons-start
+part-write-unit-reasons-start c = search needs
 
-part-write-by-change-end : tie.Need-part-write-by-change-end
-part-write-by-change-end c = search needs
+part-write-unit-reasons-end : tie.Need-part-write-unit-reasons-end
+part-write-unit-reasons-end c = search needs
 
-write-by-change-requires : tie.Need-write-by-change-requires
+write-unit-reasons-requires : tie.Need-write-unit-reasons-requires
 unfolding printReasons
-write-by-change-requires c κs = search rooms depth 40
+write-unit-reasons-requires c κs = search rooms depth 24
+
+add-c : tie.Need-add-c
+add-c c = search needs
+
+sub-write-last-reasons : tie.Need-sub-write-last-reasons
+sub-write-last-reasons c = search needs
+
+part-write-last-reasons-start : tie.Need-part-write-last-reasons-start
+part-write-last-reasons-start c = search needs
+
+part-write-last-reasons-end : tie.Need-part-write-last-reasons-end
+part-write-last-reasons-end c = search needs
+
+write-last-reasons-requires : tie.Need-write-last-reasons-requires
+unfolding printReasons
+write-last-reasons-requires c κs = search rooms depth 24
 
 add-result : tie.Need-add-result
 add-result c = search needs
@@ -51,16 +67,21 @@ pub write-print-reasons-spec : {M : Type 1} → statement M
 write-print-reasons-spec =
     tie.close
     (tie.spec
-    write-by-price-requires
-    sub-write-by-size
-    part-write-by-size-start
-    part-write-by-size-end
-    write-by-size-requires
+    write-range-reasons-requires
+    sub-write-first-reasons
+    part-write-first-reasons-start
+    part-write-first-reasons-end
+    write-first-reasons-requires
     add-b
-    sub-write-by-change
-    part-write-by-change-start
-    part-write-by-change-end
-    write-by-change-requires
+    sub-write-unit-reasons
+    part-write-unit-reasons-start
+    part-write-unit-reasons-end
+    write-unit-reasons-requires
+    add-c
+    sub-write-last-reasons
+    part-write-last-reasons-start
+    part-write-last-reasons-end
+    write-last-reasons-requires
     add-result
     same-length
     returns)

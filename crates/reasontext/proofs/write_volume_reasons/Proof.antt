@@ -4,85 +4,22 @@ use borrow.Author.Needs.{needs}
 use Rattle.reasontext.proofs.write_volume_reasons.Statement.{statement}
 use Rattle.reasontext.proofs.write_volume_reasons.Tie as tie
 
-slice-aggregate-write-optional : tie.Need-slice-aggregate-write-optional
-slice-aggregate-write-optional c = search needs
-
-write-optional-requires : tie.Need-write-optional-requires
+write-level-reasons-requires : tie.Need-write-level-reasons-requires
 unfolding volumeReasons
-write-optional-requires c κs = search rooms depth 40
+write-level-reasons-requires c κs = search rooms depth 24
 
-sub-write-optional : tie.Need-sub-write-optional
-sub-write-optional c = search needs
+sub-write-rule-reasons : tie.Need-sub-write-rule-reasons
+sub-write-rule-reasons c = search needs
 
-part-write-optional-start : tie.Need-part-write-optional-start
-part-write-optional-start c = search needs
+part-write-rule-reasons-start : tie.Need-part-write-rule-reasons-start
+part-write-rule-reasons-start c = search needs
 
-part-write-optional-end : tie.Need-part-write-optional-end
-part-write-optional-end c = search needs
+part-write-rule-reasons-end : tie.Need-part-write-rule-reasons-end
+part-write-rule-reasons-end c = search needs
 
-slice-aggregate-write-optional-2 : tie.Need-slice-aggregate-write-optional-2
-slice-aggregate-write-optional-2 c = search needs
-
-write-optional-requires-2 : tie.Need-write-optional-requires-2
+write-rule-reasons-requires : tie.Need-write-rule-reasons-requires
 unfolding volumeReasons
-write-optional-requires-2 c κs = search rooms depth 40
-
-add-b : tie.Need-add-b
-add-b c = search needs
-
-sub-write-optional-2 : tie.Need-sub-write-optional-2
-sub-write-optional-2 c = search needs
-
-part-write-optional-start-2 : tie.Need-part-write-optional-start-2
-part-write-optional-start-2 c = search needs
-
-part-write-optional-end-2 : tie.Need-part-write-optional-end-2
-part-write-optional-end-2 c = search needs
-
-slice-aggregate-write-optional-3 : tie.Need-slice-aggregate-write-optional-3
-slice-aggregate-write-optional-3 c = search needs
-
-write-optional-requires-3 : tie.Need-write-optional-requires-3
-unfolding volumeReasons
-write-optional-requires-3 c κs = search rooms depth 40
-
-add-c : tie.Need-add-c
-add-c c = search needs
-
-sub-write-optional-3 : tie.Need-sub-write-optional-3
-sub-write-optional-3 c = search needs
-
-part-write-optional-start-3 : tie.Need-part-write-optional-start-3
-part-write-optional-start-3 c = search needs
-
-part-write-optional-end-3 : tie.Need-part-write-optional-end-3
-part-write-optional-end-3 c = search needs
-
-slice-aggregate-write-optional-4 : tie.Need-slice-aggregate-write-optional-4
-slice-aggregate-write-optional-4 c = search needs
-
-write-optional-requires-4 : tie.Need-write-optional-requires-4
-unfolding volumeReasons
-write-optional-requires-4 c κs = search rooms depth 40
-
-add-d : tie.Need-add-d
-add-d c = search needs
-
-sub-write-optional-4 : tie.Need-sub-write-optional-4
-sub-write-optional-4 c = search needs
-
-part-write-optional-start-4 : tie.Need-part-write-optional-start-4
-part-write-optional-start-4 c = search needs
-
-part-write-optional-end-4 : tie.Need-part-write-optional-end-4
-part-write-optional-end-4 c = search needs
-
-slice-aggregate-write-optional-5 : tie.Need-slice-aggregate-write-optional-5
-slice-aggregate-write-optional-5 c = search needs
-
-write-optional-requires-5 : tie.Need-write-optional-requires-5
-unfolding volumeReasons
-write-optional-requires-5 c κs = search rooms depth 40
+write-rule-reasons-requires c κs = search rooms depth 24
 
 add-result : tie.Need-add-result
 add-result c = search needs
@@ -98,31 +35,11 @@ pub write-volume-reasons-spec : {M : Type 1} → statement M
 write-volume-reasons-spec =
     tie.close
     (tie.spec
-    slice-aggregate-write-optional
-    write-optional-requires
-    sub-write-optional
-    part-write-optional-start
-    part-write-optional-end
-    slice-aggregate-write-optional-2
-    write-optional-requires-2
-    add-b
-    sub-write-optional-2
-    part-write-optional-start-2
-    part-write-optional-end-2
-    slice-aggregate-write-optional-3
-    write-optional-requires-3
-    add-c
-    sub-write-optional-3
-    part-write-optional-start-3
-    part-write-optional-end-3
-    slice-aggregate-write-optional-4
-    write-optional-requires-4
-    add-d
-    sub-write-optional-4
-    part-write-optional-start-4
-    part-write-optional-end-4
-    slice-aggregate-write-optional-5
-    write-optional-requires-5
+    write-level-reasons-requires
+    sub-write-rule-reasons
+    part-write-rule-reasons-start
+    part-write-rule-reasons-end
+    write-rule-reasons-requires
     add-result
     same-length
     returns)

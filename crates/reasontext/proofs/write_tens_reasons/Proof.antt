@@ -1,15 +1,15 @@
 use Rattle.text.proofs.Writing.{rooms, then}
-use Rattle.reasontext.specs.Text.{byWhole}
+use Rattle.reasontext.specs.Text.{tensReasons}
 use borrow.Author.Needs.{needs}
-use Rattle.reasontext.proofs.write_by_whole.Statement.{statement}
-use Rattle.reasontext.proofs.write_by_whole.Tie as tie
+use Rattle.reasontext.proofs.write_tens_reasons.Statement.{statement}
+use Rattle.reasontext.proofs.write_tens_reasons.Tie as tie
 
 slice-aggregate-write-optional : tie.Need-slice-aggregate-write-optional
 slice-aggregate-write-optional c = search needs
 
 write-optional-requires : tie.Need-write-optional-requires
-unfolding byWhole
-write-optional-requires c κs = search rooms depth 40
+unfolding tensReasons
+write-optional-requires c κs = search rooms depth 24
 
 sub-write-optional : tie.Need-sub-write-optional
 sub-write-optional c = search needs
@@ -24,8 +24,8 @@ slice-aggregate-write-optional-2 : tie.Need-slice-aggregate-write-optional-2
 slice-aggregate-write-optional-2 c = search needs
 
 write-optional-requires-2 : tie.Need-write-optional-requires-2
-unfolding byWhole
-write-optional-requires-2 c κs = search rooms depth 40
+unfolding tensReasons
+write-optional-requires-2 c κs = search rooms depth 24
 
 add-b : tie.Need-add-b
 add-b c = search needs
@@ -43,27 +43,8 @@ slice-aggregate-write-optional-3 : tie.Need-slice-aggregate-write-optional-3
 slice-aggregate-write-optional-3 c = search needs
 
 write-optional-requires-3 : tie.Need-write-optional-requires-3
-unfolding byWhole
-write-optional-requires-3 c κs = search rooms depth 40
-
-add-c : tie.Need-add-c
-add-c c = search needs
-
-sub-write-optional-3 : tie.Need-sub-write-optional-3
-sub-write-optional-3 c = search needs
-
-part-write-optional-start-3 : tie.Need-part-write-optional-start-3
-part-write-optional-start-3 c = search needs
-
-part-write-optional-end-3 : tie.Need-part-write-optional-end-3
-part-write-optional-end-3 c = search needs
-
-slice-aggregate-write-optional-4 : tie.Need-slice-aggregate-write-optional-4
-slice-aggregate-write-optional-4 c = search needs
-
-write-optional-requires-4 : tie.Need-write-optional-requires-4
-unfolding byWhole
-write-optional-requires-4 c κs = search rooms depth 40
+unfolding tensReasons
+write-optional-requires-3 c κs = search rooms depth 24
 
 add-result : tie.Need-add-result
 add-result c = search needs
@@ -72,11 +53,11 @@ same-length : tie.Need-same-length
 same-length c = search needs
 
 returns : tie.Need-returns
-unfolding byWhole
+unfolding tensReasons
 returns c = search then
 
-pub write-by-whole-spec : {M : Type 1} → statement M
-write-by-whole-spec =
+pub write-tens-reasons-spec : {M : Type 1} → statement M
+write-tens-reasons-spec =
     tie.close
     (tie.spec
     slice-aggregate-write-optional
@@ -92,12 +73,6 @@ write-by-whole-spec =
     part-write-optional-end-2
     slice-aggregate-write-optional-3
     write-optional-requires-3
-    add-c
-    sub-write-optional-3
-    part-write-optional-start-3
-    part-write-optional-end-3
-    slice-aggregate-write-optional-4
-    write-optional-requires-4
     add-result
     same-length
     returns)

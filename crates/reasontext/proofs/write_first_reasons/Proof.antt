@@ -1,15 +1,15 @@
 use Rattle.text.proofs.Writing.{rooms, then}
-use Rattle.reasontext.specs.Text.{byChange}
+use Rattle.reasontext.specs.Text.{firstReasons}
 use borrow.Author.Needs.{needs}
-use Rattle.reasontext.proofs.write_by_change.Statement.{statement}
-use Rattle.reasontext.proofs.write_by_change.Tie as tie
+use Rattle.reasontext.proofs.write_first_reasons.Statement.{statement}
+use Rattle.reasontext.proofs.write_first_reasons.Tie as tie
 
 slice-aggregate-write-optional : tie.Need-slice-aggregate-write-optional
 slice-aggregate-write-optional c = search needs
 
 write-optional-requires : tie.Need-write-optional-requires
-unfolding byChange
-write-optional-requires c κs = search rooms depth 40
+unfolding firstReasons
+write-optional-requires c κs = search rooms depth 24
 
 sub-write-optional : tie.Need-sub-write-optional
 sub-write-optional c = search needs
@@ -24,8 +24,8 @@ slice-aggregate-write-optional-2 : tie.Need-slice-aggregate-write-optional-2
 slice-aggregate-write-optional-2 c = search needs
 
 write-optional-requires-2 : tie.Need-write-optional-requires-2
-unfolding byChange
-write-optional-requires-2 c κs = search rooms depth 40
+unfolding firstReasons
+write-optional-requires-2 c κs = search rooms depth 24
 
 add-b : tie.Need-add-b
 add-b c = search needs
@@ -43,8 +43,8 @@ slice-aggregate-write-optional-3 : tie.Need-slice-aggregate-write-optional-3
 slice-aggregate-write-optional-3 c = search needs
 
 write-optional-requires-3 : tie.Need-write-optional-requires-3
-unfolding byChange
-write-optional-requires-3 c κs = search rooms depth 40
+unfolding firstReasons
+write-optional-requires-3 c κs = search rooms depth 24
 
 add-c : tie.Need-add-c
 add-c c = search needs
@@ -62,27 +62,8 @@ slice-aggregate-write-optional-4 : tie.Need-slice-aggregate-write-optional-4
 slice-aggregate-write-optional-4 c = search needs
 
 write-optional-requires-4 : tie.Need-write-optional-requires-4
-unfolding byChange
-write-optional-requires-4 c κs = search rooms depth 40
-
-add-d : tie.Need-add-d
-add-d c = search needs
-
-sub-write-optional-4 : tie.Need-sub-write-optional-4
-sub-write-optional-4 c = search needs
-
-part-write-optional-start-4 : tie.Need-part-write-optional-start-4
-part-write-optional-start-4 c = search needs
-
-part-write-optional-end-4 : tie.Need-part-write-optional-end-4
-part-write-optional-end-4 c = search needs
-
-slice-aggregate-write-optional-5 : tie.Need-slice-aggregate-write-optional-5
-slice-aggregate-write-optional-5 c = search needs
-
-write-optional-requires-5 : tie.Need-write-optional-requires-5
-unfolding byChange
-write-optional-requires-5 c κs = search rooms depth 40
+unfolding firstReasons
+write-optional-requires-4 c κs = search rooms depth 24
 
 add-result : tie.Need-add-result
 add-result c = search needs
@@ -91,11 +72,11 @@ same-length : tie.Need-same-length
 same-length c = search needs
 
 returns : tie.Need-returns
-unfolding byChange
+unfolding firstReasons
 returns c = search then
 
-pub write-by-change-spec : {M : Type 1} → statement M
-write-by-change-spec =
+pub write-first-reasons-spec : {M : Type 1} → statement M
+write-first-reasons-spec =
     tie.close
     (tie.spec
     slice-aggregate-write-optional
@@ -117,12 +98,6 @@ write-by-change-spec =
     part-write-optional-end-3
     slice-aggregate-write-optional-4
     write-optional-requires-4
-    add-d
-    sub-write-optional-4
-    part-write-optional-start-4
-    part-write-optional-end-4
-    slice-aggregate-write-optional-5
-    write-optional-requires-5
     add-result
     same-length
     returns)
