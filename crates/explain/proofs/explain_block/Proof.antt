@@ -1,4 +1,5 @@
-use Rattle.explain.proofs.Laws.{next-fits, next-within, end-within}
+use Rattle.input.proofs.Laws.{over-within, gone-within}
+use Rattle.explain.proofs.Laws.{next-fits, next-within}
 use borrow.Author.Needs.{needs}
 use Rattle.explain.proofs.explain_block.Statement.{statement}
 use Rattle.explain.proofs.explain_block.Tie as tie
@@ -16,7 +17,7 @@ explain-lines-requires : tie.Need-explain-lines-requires
 explain-lines-requires c κs = search needs
 
 add-next : tie.Need-add-next
-add-next c = let s = c .before .before .before .before .before .before .before .before .before .before .before in search (next-fits, s .pre, s .good .1 .1 .1, c .before .before .before .explain-lines .ensures)
+add-next c = let s = c .before .before .before .before .before .before .before .before .before .before .before in search (next-fits, s .pre, s .good .1 .1, s .good .1 .1 .1, c .before .before .before .explain-lines .ensures)
 
 write-out-requires : tie.Need-write-out-requires
 write-out-requires c κs = search needs
@@ -28,16 +29,16 @@ same-length : tie.Need-same-length
 same-length c = search needs
 
 returns : tie.Need-returns
-returns c = search needs
+returns c = search over-within
 
-told-requires : tie.Need-told-requires
-told-requires c κs = search needs
+gone-on-requires : tie.Need-gone-on-requires
+gone-on-requires c κs = search needs
 
 same-length-2 : tie.Need-same-length-2
 same-length-2 c = search needs
 
 returns-2 : tie.Need-returns-2
-returns-2 c = let w = c .before .before .before .before .before .before .before .before .before .before .before .before .before .before .before .pre in record { from-to = search (next-within, w, c .before .before .before .before .before .before .before .explain-lines .ensures); to-end = search (end-within, w) }
+returns-2 c = search (gone-within, next-within, c .before .before .before .before .before .before .before .before .before .before .before .before .before .before .before .before .pre, c .before .before .before .before .before .before .before .before .explain-lines .ensures)
 
 pub explain-block-spec : {M : Type 1} → statement M
 explain-block-spec =
@@ -52,6 +53,6 @@ explain-block-spec =
     stopped-requires
     same-length
     returns
-    told-requires
+    gone-on-requires
     same-length-2
     returns-2)

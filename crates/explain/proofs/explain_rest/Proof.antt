@@ -1,4 +1,4 @@
-use Rattle.explain.proofs.Laws.{end-at, end-within}
+use Rattle.input.proofs.Laws.{over-within, all-within}
 use borrow.Author.Needs.{needs}
 use Rattle.explain.proofs.explain_rest.Statement.{statement}
 use Rattle.explain.proofs.explain_rest.Tie as tie
@@ -25,16 +25,16 @@ same-length : tie.Need-same-length
 same-length c = search needs
 
 returns : tie.Need-returns
-returns c = search needs
+returns c = search over-within
 
-told-requires : tie.Need-told-requires
-told-requires c κs = search needs
+all-taken-requires : tie.Need-all-taken-requires
+all-taken-requires c κs = search needs
 
 same-length-2 : tie.Need-same-length-2
 same-length-2 c = search needs
 
 returns-2 : tie.Need-returns-2
-returns-2 c = let w = c .before .before .before .before .before .before .before .before .before .before .before .before .before .before .pre in record { from-to = search (end-at, w); to-end = search (end-within, w) }
+returns-2 c = search (all-within, c .before .before .before .before .before .before .before .before .before .before .before .before .before .before .before .pre)
 
 pub explain-rest-spec : {M : Type 1} → statement M
 explain-rest-spec =
@@ -48,6 +48,6 @@ explain-rest-spec =
     stopped-requires
     same-length
     returns
-    told-requires
+    all-taken-requires
     same-length-2
     returns-2)

@@ -1,8 +1,8 @@
 -- The loop's invariant: what is not yet explained lies in the block. The measure is the number of turns that are left. Assumes nothing.
-use native.Mathlib.Omega.{arith}
-use mathlib.Core.Path.{_≡_, refl}
+use mathlib.Core.Path.{_≡_}
 use lib.ListN.{length}
-use Rattle.explain.specs.State.{Within}
+use Rattle.input.specs.State.{Within}
+use Rattle.input.proofs.Laws.{opening-within}
 use borrow.Author.Needs.{needs}
 use Rattle.explain.proofs.run.Statement.{statement}
 use Rattle.explain.proofs.run.Tie as tie
@@ -17,7 +17,7 @@ started-requires : tie.Need-started-requires Inv-loop μ-loop
 started-requires c κs = search needs
 
 loop-holds : tie.Need-loop-holds Inv-loop μ-loop
-loop-holds c = search needs
+loop-holds c = search (opening-within, needs)
 
 turn-requires : tie.Need-turn-requires Inv-loop μ-loop
 turn-requires c κs = search needs
