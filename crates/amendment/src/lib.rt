@@ -12,34 +12,6 @@ ghost use Rattle.rules.specs.Correction.{repeatsName, endPair, correctionText, 
 
 // ---- parts
 
-// Any of S L O C K N M B.
-fn repeats_name(x: Letters) -> bool
-    ensures { λ r. ⌜ r ≡ repeatsName x ⌝ }
-{
-    if x.s {
-        return true;
-    }
-    if x.l {
-        return true;
-    }
-    if x.o {
-        return true;
-    }
-    if x.c {
-        return true;
-    }
-    if x.k {
-        return true;
-    }
-    if x.n {
-        return true;
-    }
-    if x.m {
-        return true;
-    }
-    x.b
-}
-
 // The end pair, unless a closing G pair serves as it.
 fn end_pair_length(x: Side) -> usize
     ensures { λ r. ⌜ (r ≡ length (endPair x)) × (r ≤ 2) ⌝ }
@@ -69,7 +41,7 @@ fn correcting_length(
     requires { ⌜ (1 ≤ unit) × (y .price .d ≤ 8) × (y .previous .d ≤ 8) ⌝ }
     ensures { λ r. ⌜ (r ≡ length (sideText (opt (repeatsName letters) (now (name .entry))) network unit full shows y)) × (r ≤ length (now (name .entry)) + 161) ⌝ }
 {
-    if repeats_name(letters) {
+    if qualifying::repeats_name(letters) {
         return trade::side_length(name, network, unit, full, shows, y);
     }
     trade::side_length(&name[..0], network, unit, full, shows, y)
@@ -88,7 +60,7 @@ fn write_correcting(
     requires { ⌜ (1 ≤ unit) × (y .price .d ≤ 8) × (y .previous .d ≤ 8) × (length (sideText (opt (repeatsName letters) (now name)) network unit full shows y) ≤ length (now rest)) ⌝ }
     ensures { λ r. ⌜ Written (sideText (opt (repeatsName letters) (now (name .entry))) network unit full shows y) (now (rest .entry)) (now (rest .exit)) r ⌝ }
 {
-    if repeats_name(letters) {
+    if qualifying::repeats_name(letters) {
         return trade::write_side(rest, name, network, unit, full, shows, y);
     }
     trade::write_side(rest, &name[..0], network, unit, full, shows, y)

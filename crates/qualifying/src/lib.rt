@@ -7,6 +7,7 @@ ghost use mathlib.Core.Bool.{_||_, not};
 ghost use lib.Dec.{eqb};
 ghost use Rattle.rules.specs.Conditions.{hasRule, onNetwork};
 ghost use Rattle.rules.specs.Qualifying.{forNeither, forRangeOnly, forRange, forLast};
+ghost use Rattle.rules.specs.Correction.{repeatsName};
 ghost use Rattle.rules.specs.Day.{isEntered, showsTemporary};
 
 // ---- letters (Price and conditions)
@@ -65,6 +66,34 @@ pub fn has_rule(x: Letters) -> bool
         return true;
     }
     x.g
+}
+
+// Any of S L O C K N M B: the name repeats after WAS. (Corrections and cancels).
+pub fn repeats_name(letters: Letters) -> bool
+    ensures { λ r. ⌜ r ≡ repeatsName letters ⌝ }
+{
+    if letters.s {
+        return true;
+    }
+    if letters.l {
+        return true;
+    }
+    if letters.o {
+        return true;
+    }
+    if letters.c {
+        return true;
+    }
+    if letters.k {
+        return true;
+    }
+    if letters.n {
+        return true;
+    }
+    if letters.m {
+        return true;
+    }
+    letters.b
 }
 
 // A letter that one network alone has.

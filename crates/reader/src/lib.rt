@@ -20,7 +20,7 @@ ghost use Rattle.heading.specs.Head.{headAt, againAt};
 ghost use Rattle.sideread.specs.Side.{sideAt};
 ghost use Rattle.sideread.specs.declared.SideAnswer.the-variants.{Sided};
 ghost use Rattle.reader.specs.Read.{tradeHead, tradeAt, endAt, endedBy, cancelHead, cancelAt, asCancel, asError, correctedBy, secondSide, secondHead, secondAt, correctionHead, correctionAt, announcedBy, printAt, readAt};
-ghost use Rattle.reader.specs.Told.{lengthOf, nameFrom, nameLength, nameIn, nameAt};
+ghost use Rattle.reader.specs.Told.{lengthOf, nameFrom, nameLength, nameAt};
 
 // A trade, cancel or error: the print's length, where in it its name begins and ends, and the side shown (its letters as a
 // print shows them: next day as M, cash as K).
@@ -211,39 +211,11 @@ fn corrected_by(h: NameRead, x: Side, y: Side, n: usize) -> ReadAnswer
     })
 }
 
-// Any of S L O C K N M B.
-fn repeats_name(x: Letters) -> bool
-    ensures { λ r. ⌜ r ≡ repeatsName x ⌝ }
-{
-    if x.s {
-        return true;
-    }
-    if x.l {
-        return true;
-    }
-    if x.o {
-        return true;
-    }
-    if x.c {
-        return true;
-    }
-    if x.k {
-        return true;
-    }
-    if x.n {
-        return true;
-    }
-    if x.m {
-        return true;
-    }
-    x.b
-}
-
 // A head of u bytes repeats the name exactly where the letters ask for it.
 fn repeats_duly(x: Letters, u: usize) -> bool
     ensures { λ r. ⌜ r ≡ alike (repeatsName x) (leb 1 u) ⌝ }
 {
-    if repeats_name(x) {
+    if qualifying::repeats_name(x) {
         return 1 <= u;
     }
     u < 1

@@ -1,8 +1,8 @@
 use Rattle.text.proofs.Told.{answers}
 use Rattle.rules.specs.Correction.{repeatsName}
 use borrow.Author.Needs.{needs}
-use Rattle.amendment.proofs.repeats_name.Statement.{statement}
-use Rattle.amendment.proofs.repeats_name.Tie as tie
+use Rattle.qualifying.proofs.repeats_name.Statement.{statement}
+use Rattle.qualifying.proofs.repeats_name.Tie as tie
 
 returns : tie.Need-returns
 unfolding repeatsName
