@@ -1,41 +1,19 @@
 -- Places in the block. Assumes nothing.
-use Prim.Native.Nat.{ℕ, _+_, _-_, _≤_, _<_}
+use Prim.Native.Nat.{ℕ, _-_, _≤_}
 use native.Mathlib.Omega.{arith}
-use mathlib.Core.Path.{_≡_, refl, sym, ap, _∙_}
+use mathlib.Core.Path.{_≡_}
 use mathlib.Core.Bool.{true, false}
-use mathlib.Core.List.{List, _++_, append-assoc}
-use lib.ListN.{length, take, drop, length-drop}
-use lib.Seq.{length-take-le, take-at, take-take}
-use Rattle.text.specs.Put.{put, Written}
+use mathlib.Core.List.{List}
+use lib.ListN.{length, take}
+use Rattle.blocks.proofs.Fronts.{counted}
 use Rattle.rules.specs.Day.{opened}
 use Rattle.rules.specs.declared.Settings.{Settings}
-use Rattle.input.specs.State.{opening, over, goneOn, allTaken, Within, unread, More}
+use Rattle.input.specs.State.{opening, over, goneOn, allTaken, Within, More}
 use Rattle.input.specs.declared.State.{State}
 
--- the first n bytes are n
-pub counted : (n : ℕ) (xs : List ℕ) → n ≤ length xs → n ≡ length (take n xs)
-counted n xs h = sym (length-take-le n xs h)
-
--- the same of a block in which a place stands
+-- the part before a place in a block
 pub had : (s : State) (xs : List ℕ) → Within s (length xs) → s .have ≡ length (take (s .have) xs)
 had s xs w = counted (s .have) xs (w .to-end)
-
--- what was moved to the front is what was not yet used
-module _ (s : State) (xs ys : List ℕ) (r : ℕ) (v : Written (unread s xs) (take (s .have) xs) ys r) where
-  pub fronted : Within s (length xs) → r ≡ s .have - s .at
-  fronted w = omega (arith, v .count-is, length-drop (s .at) (take (s .have) xs), had s xs w)
-
-  pub front-is : take r (ys ++ drop (s .have) xs) ≡ unread s xs
-  unfolding put
-  front-is = rw (v .tape, append-assoc) (take-at (unread s xs) (drop (length (unread s xs)) (take (s .have) xs) ++ drop (s .have) xs) r (sym (v .count-is)))
-
--- what stands before a part that is lent
-pub before-same : (xs ys : List ℕ) (n : ℕ) → n < length xs → take n (take n xs ++ ys) ≡ take n xs
-before-same xs ys n h = take-at (take n xs) ys n (length-take-le n xs (omega arith))
-
--- it is kept before the bytes that are read more
-pub more-kept : (s : State) (b₀ b₁ b₂ : List ℕ) (rest n : ℕ) → rest ≡ s .have - s .at → take rest b₁ ≡ unread s b₀ → take rest b₂ ≡ take rest b₁ → take (s .have - s .at) (take (rest + n) b₂) ≡ unread s b₀
-more-kept s b₀ b₁ b₂ rest n e f g = rw (← e) (take-take rest (rest + n) b₂ (omega arith) ∙ (g ∙ f))
 
 -- ---- for the programs: where a state stands
 

@@ -3,9 +3,10 @@ use Prim.Native.Nat.{ℕ, _-_, _≤_}
 use mathlib.Core.Path.{_≡_}
 use mathlib.Core.Bool.{true, false}
 use mathlib.Core.List.{List}
-use lib.ListN.{length, take, drop}
+use lib.ListN.{length, take}
 use Rattle.rules.specs.Day.{opened}
 use Rattle.rules.specs.declared.Settings.{Settings}
+use Rattle.refill.specs.Block.{unused}
 use Rattle.input.specs.declared.State.{State}
 
 -- before the first block: a fresh state, the first line
@@ -29,9 +30,9 @@ pub record Within (s : State) (n : ℕ) : Type 0 where
   pub from-to : s .at ≤ s .have
   pub to-end : s .have ≤ n
 
--- it: of the first `have` bytes of a block those from `at` on
+-- it
 abbrev pub unread : State → List ℕ → List ℕ
-unread s block = drop (s .at) (take (s .have) block)
+unread s block = unused (s .at) (s .have) block
 
 -- more was read: what was not yet used is kept, before the bytes that came; nothing else of the state moved but whether there is more
 pub record More (s : State) (block : List ℕ) (r : State) (block′ : List ℕ) : Type 0 where

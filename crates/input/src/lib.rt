@@ -1,11 +1,10 @@
 // Day lines on standard input, in blocks: where a program stands in its block, more read behind what is left of it, and lines
 // passed over that are longer than a block. The day program and those that tell its facts and reasons share it.
-use libc::STDIN_FILENO;
 use rules::Settings;
 ghost use mathlib.Core.Path.{_≡_};
-ghost use Prim.Native.Nat.{_+_, _-_, _≤_, _<_};
-ghost use lib.ListN.{length, take};
-ghost use Rattle.input.specs.State.{opening, over, goneOn, allTaken, Within, unread, More};
+ghost use Prim.Native.Nat.{_+_, _-_, _<_};
+ghost use lib.ListN.{length};
+ghost use Rattle.input.specs.State.{opening, over, goneOn, allTaken, Within, More};
 
 // The settings, the number of the next line, the part of the block that is read and not yet used, whether a line longer than
 // the block is being passed over, and whether there is more to read.
@@ -63,36 +62,18 @@ pub fn all_taken(s: State, settings: Settings, number: u64) -> State
     r
 }
 
-// What is not yet used goes to the block's front.
-fn to_front(s: State, block: &mut [u8]) -> usize
-    requires { ⌜ Within s (length (now block)) ⌝ }
-    ensures { λ r. ⌜ (r ≡ s .have - s .at) × (take r (now (block .exit)) ≡ unread s (now (block .entry))) ⌝ }
-{
-    let at = s.at;
-    let have = s.have;
-    blocks::move_front(&mut block[..have], at)
-}
-
-// Reads more behind the first `rest` bytes. The part that is lent has at least one byte, so that none tells the input's end.
-fn fill(block: &mut [u8], rest: usize) -> usize
-    requires { ⌜ rest < length (now block) ⌝ }
-    ensures { λ r. ⌜ (rest + r ≤ length (now (block .exit))) × (take rest (now (block .exit)) ≡ take rest (now (block .entry))) ⌝ }
-{
-    let got = libc::read(STDIN_FILENO, &mut block[rest..]);
-    io::count(got, &block[rest..])
-}
-
 // More of the input, behind what is not yet used; a short read is no end.
 pub fn read_more(s: State, block: &mut [u8]) -> State
     requires { ⌜ Within s (length (now block)) × (s .have - s .at < length (now block)) ⌝ }
     ensures { λ r. ⌜ More s (now (block .entry)) r (now (block .exit)) ⌝ }
 {
-    let rest = to_front(s, block);
-    let n = fill(block, rest);
+    let at = s.at;
+    let have = s.have;
+    let n = refill::read_behind(block, at, have);
     let mut r = s;
     r.at = 0;
-    r.have = rest + n;
-    r.going = 0 < n;
+    r.have = n;
+    r.going = have - at < n;
     r
 }
 

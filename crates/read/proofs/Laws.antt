@@ -3,40 +3,18 @@ use Prim.Native.Nat.{ℕ, _+_, _-_, _^_, _≤_, _<_}
 use native.Mathlib.Omega.{arith}
 use mathlib.Core.Path.{_≡_, refl, sym, ap, _∙_}
 use mathlib.Core.Bool.{Bool, true, false, not, true≢false}
-use mathlib.Core.List.{List, _++_, append-assoc}
+use mathlib.Core.List.{List}
 use mir.Val.{Fits}
 use mir.Syntax.{w64}
 use lib.ListN.{length, take, drop, length-drop}
-use lib.Seq.{length-take-le, take-at, take-take}
+use lib.Seq.{length-take-le}
 use borrow.Author.Tests.{not-false}
-use Rattle.text.specs.Put.{put, Written}
 use Rattle.prints.specs.declared.Reading.{Reading}
 use Rattle.prints.specs.Block.{mayRead, blockRead, Stands}
 use Rattle.prints.proofs.Blocks.{lines-length}
 use Rattle.prints.proofs.LookAhead.{may-not, may-none, block-within, block-placed, block-moves}
-use Rattle.read.specs.State.{Within, unread, Kept}
+use Rattle.read.specs.State.{Within, Kept}
 use Rattle.read.specs.declared.State.{State}
-
--- a block in which a place stands
-pub had : (s : State) (xs : List ℕ) → Within s (length xs) → s .have ≡ length (take (s .have) xs)
-had s xs w = sym (length-take-le (s .have) xs (w .to-end))
-
--- what was moved to the front is what was not yet read
-module _ (s : State) (xs ys : List ℕ) (r : ℕ) (v : Written (unread s xs) (take (s .have) xs) ys r) where
-  pub fronted : Within s (length xs) → r ≡ s .have - s .at
-  fronted w = omega (arith, v .count-is, length-drop (s .at) (take (s .have) xs), had s xs w)
-
-  pub front-is : take r (ys ++ drop (s .have) xs) ≡ unread s xs
-  unfolding put
-  front-is = rw (v .tape, append-assoc) (take-at (unread s xs) (drop (length (unread s xs)) (take (s .have) xs) ++ drop (s .have) xs) r (sym (v .count-is)))
-
--- what stands before a part that is lent
-pub before-same : (xs ys : List ℕ) (n : ℕ) → n < length xs → take n (take n xs ++ ys) ≡ take n xs
-before-same xs ys n h = take-at (take n xs) ys n (length-take-le n xs (omega arith))
-
--- it is kept before the bytes that are read more
-pub more-kept : (s : State) (b₀ b₁ b₂ : List ℕ) (rest n : ℕ) → rest ≡ s .have - s .at → take rest b₁ ≡ unread s b₀ → take rest b₂ ≡ take rest b₁ → take (s .have - s .at) (take (rest + n) b₂) ≡ unread s b₀
-more-kept s b₀ b₁ b₂ rest n e f g = rw (← e) (take-take rest (rest + n) b₂ (omega arith) ∙ (g ∙ f))
 
 -- ---- after a reading of what stands between two places
 

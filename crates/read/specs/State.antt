@@ -3,7 +3,7 @@ use Prim.Native.Nat.{ℕ, _+_, _-_, _≤_, _<_}
 use mathlib.Core.Path.{_≡_}
 use mathlib.Core.Bool.{true, false}
 use mathlib.Core.List.{List}
-use lib.ListN.{take, drop}
+use Rattle.refill.specs.Block.{unused}
 use Rattle.read.specs.declared.State.{State}
 
 -- the part that is not yet read lies in a block of n bytes
@@ -11,9 +11,9 @@ pub record Within (s : State) (n : ℕ) : Type 0 where
   pub from-to : s .at ≤ s .have
   pub to-end : s .have ≤ n
 
--- it: of the first `have` bytes of a block those from `at` on
+-- it
 abbrev pub unread : State → List ℕ → List ℕ
-unread s block = drop (s .at) (take (s .have) block)
+unread s block = unused (s .at) (s .have) block
 
 -- where prints were read from s to r and there is more to do: the place has moved on with the block's; where no print was read, fewer than 400 bytes are left, and none if the tape ends with them
 pub record Kept (s r : State) : Type 0 where

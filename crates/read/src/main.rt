@@ -1,6 +1,5 @@
 // The reader's program (document 01, "Reader"): a tape on standard input, place and length of each print on standard output.
 // Input is read in blocks; prints are read as parts of a block, with 400 bytes of look-ahead while the tape goes on.
-use libc::STDIN_FILENO;
 use libc::STDOUT_FILENO;
 ghost use mathlib.Core.Path.{_≡_};
 ghost use mathlib.Core.Bool.{true, false};
@@ -51,37 +50,20 @@ fn over(s: State) -> State
     stopped()
 }
 
-// What is not yet read goes to the block's front.
-fn to_front(s: State, block: &mut [u8]) -> usize
-    requires { ⌜ Within s (length (now block)) ⌝ }
-    ensures { λ r. ⌜ (r ≡ s .have - s .at) × (take r (now (block .exit)) ≡ unread s (now (block .entry))) ⌝ }
-{
-    let at = s.at;
-    let have = s.have;
-    blocks::move_front(&mut block[..have], at)
-}
-
-// Reads more behind the first `rest` bytes. The part that is lent has at least one byte, so that none tells the input's end.
-fn fill(block: &mut [u8], rest: usize) -> usize
-    requires { ⌜ rest < length (now block) ⌝ }
-    ensures { λ r. ⌜ (rest + r ≤ length (now (block .exit))) × (take rest (now (block .exit)) ≡ take rest (now (block .entry))) ⌝ }
-{
-    let got = libc::read(STDIN_FILENO, &mut block[rest..]);
-    io::count(got, &block[rest..])
-}
-
 // More of the tape, behind what is not yet read; a short read is no end.
 fn read_more(s: State, block: &mut [u8]) -> State
     requires { ⌜ Within s (length (now block)) × (400 ≤ length (now block)) × (s .have - s .at < 400) ⌝ }
     ensures { λ r. ⌜ Within r (length (now (block .exit))) × (r .place ≡ s .place) × (take (s .have - s .at) (unread r (now (block .exit))) ≡ unread s (now (block .entry))) ⌝ }
 {
-    let rest = to_front(s, block);
-    let n = fill(block, rest);
+    let at = s.at;
+    let have = s.have;
+    let rest = have - at;
+    let n = refill::read_behind(block, at, have);
     State {
         place: s.place,
         at: 0,
-        have: rest + n,
-        ended: n == 0,
+        have: n,
+        ended: n == rest,
         going: true,
     }
 }

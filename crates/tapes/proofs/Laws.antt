@@ -1,16 +1,16 @@
 -- Room for a line, and a print within its tape. Assumes nothing.
 use Prim.Native.Nat.{ℕ, zero, suc, _+_, _-_, _^_, _≤_, _<_}
 use native.Mathlib.Omega.{arith}
-use mathlib.Core.Path.{_≡_, refl, sym, ap}
+use mathlib.Core.Path.{_≡_, refl, ap}
 use mathlib.Core.List.{List}
 use lib.ListN.{length, take, length-take}
-use lib.Seq.{length-take-le}
 use Rattle.text.specs.Put.{Written}
 use Rattle.text.proofs.Writing.{length-put}
 use Rattle.reader.specs.declared.ReadAnswer.{ReadAnswer}
 use Rattle.reader.specs.Read.{readAt}
 use Rattle.reader.specs.Told.{lengthOf}
 use Rattle.reader.proofs.Bounds.{read-length}
+use Rattle.blocks.proofs.Fronts.{counted}
 use Rattle.told.specs.Lines.{toldLine}
 use Rattle.told.proofs.Short.{told-short}
 
@@ -30,10 +30,6 @@ module _ (tape : List ℕ) (place : ℕ) (r : ReadAnswer) (n : ℕ) (e : r ≡ r
       some : (m : ℕ) → (m ≡ 0 → ⊥) → length tape - (place + m) < length tape - place
       some zero y = absurd (y refl)
       some (suc m) y = omega arith
-
--- the first n bytes are n
-pub counted : (n : ℕ) (xs : List ℕ) → n ≤ length xs → n ≡ length (take n xs)
-counted n xs h = sym (length-take-le n xs h)
 
 -- what was written is as long as was told
 pub written-front : (t b a : List ℕ) (n : ℕ) → Written t b a n → n ≡ length (take n a)

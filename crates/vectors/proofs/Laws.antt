@@ -1,19 +1,14 @@
--- Parts of a block, and a day from a fresh state. Assumes nothing.
-use Prim.Native.Nat.{ℕ, _≤_}
-use mathlib.Core.Path.{_≡_, sym}
+-- A day from a fresh state. Assumes nothing.
+use Prim.Native.Nat.{ℕ}
+use mathlib.Core.Path.{_≡_}
 use mathlib.Core.List.{List}
-use lib.ListN.{length, take}
-use lib.Seq.{length-take-le}
+use lib.ListN.{length}
 use Rattle.rules.specs.Day.{opened}
 use Rattle.rules.specs.declared.Settings.{Settings}
 use Rattle.lines.specs.declared.Fed.{Fed}
 use Rattle.lines.specs.Feed.{started, blockTaken, Stands}
 use Rattle.showing.specs.declared.Shown.{Shown}
 use Rattle.showing.specs.Shows as shows
-
--- the first n bytes are n
-pub counted : (n : ℕ) (xs : List ℕ) → n ≤ length xs → n ≡ length (take n xs)
-counted n xs h = sym (length-take-le n xs h)
 
 -- what is fed from the settings of a fresh state
 pub from-fresh : (st : Settings) (block table names tape₀ refusals₀ table′ names′ tape refusals : List ℕ) (number : ℕ) (f : Fed)

@@ -1,4 +1,5 @@
-use Rattle.tapes.proofs.Laws.{counted, front-most}
+use Rattle.blocks.proofs.Fronts.{counted}
+use Rattle.tapes.proofs.Laws.{front-most}
 use borrow.Author.Needs.{needs}
 use Rattle.tapes.proofs.show_front.Statement.{statement}
 use Rattle.tapes.proofs.show_front.Tie as tie

@@ -1,4 +1,4 @@
-use Rattle.vectors.proofs.Laws.{counted}
+use Rattle.blocks.proofs.Fronts.{counted}
 use borrow.Author.Needs.{needs}
 use Rattle.vectors.proofs.show_day.Statement.{statement}
 use Rattle.vectors.proofs.show_day.Tie as tie

@@ -1,7 +1,7 @@
-use Rattle.read.proofs.Laws.{before-same}
+use Rattle.refill.proofs.Laws.{before-same}
 use borrow.Author.Needs.{needs}
-use Rattle.read.proofs.fill.Statement.{statement}
-use Rattle.read.proofs.fill.Tie as tie
+use Rattle.refill.proofs.fill.Statement.{statement}
+use Rattle.refill.proofs.fill.Tie as tie
 
 sub-read : tie.Need-sub-read
 sub-read c = search needs

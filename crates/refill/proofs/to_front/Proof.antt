@@ -1,13 +1,14 @@
-use Rattle.read.proofs.Laws.{had, fronted, front-is}
+use Rattle.blocks.proofs.Fronts.{counted}
+use Rattle.refill.proofs.Laws.{fronted, front-is}
 use borrow.Author.Needs.{needs}
-use Rattle.read.proofs.to_front.Statement.{statement}
-use Rattle.read.proofs.to_front.Tie as tie
+use Rattle.refill.proofs.to_front.Statement.{statement}
+use Rattle.refill.proofs.to_front.Tie as tie
 
 slice-relend-prefix-move-front : tie.Need-slice-relend-prefix-move-front
 slice-relend-prefix-move-front c = search needs
 
 slice-aggregate-move-front : tie.Need-slice-aggregate-move-front
-slice-aggregate-move-front c = search had
+slice-aggregate-move-front c = search counted
 
 move-front-requires : tie.Need-move-front-requires
 move-front-requires c κs = search needs
