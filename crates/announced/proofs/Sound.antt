@@ -1,29 +1,22 @@
 -- What is found at a place is an announcement, and within the text. Assumes nothing.
-use Prim.Native.Nat.{ℕ, zero, suc, _+_, _≤_, _<_}
+use Prim.Native.Nat.{ℕ, _≤_, _<_}
 use native.Mathlib.Omega.{arith}
-use mathlib.Core.Path.{_≡_, refl, sym, ap, _∙_}
-use mathlib.Core.Bool.{Bool, true, false, _&&_}
-use mathlib.Core.List.{List, [], _∷_}
+use mathlib.Core.Path.{_≡_, refl}
+use mathlib.Core.Bool.{Bool, true, false}
+use mathlib.Core.List.{List}
 use lib.ListN.{length, take}
-use lib.Dec.{eqb, leb, ltb}
-use borrow.Author.Tests.{leb-true, eqb-true}
+use lib.Dec.{leb, ltb}
+use borrow.Author.Tests.{leb-true}
 use Rattle.text.specs.Bytes.{bytes}
 use Rattle.text.specs.Pick.{pick}
 use Rattle.text.specs.Reading.{starts}
 use Rattle.text.proofs.Texts.{and-left, and-right}
+use Rattle.text.proofs.Parts.{starts-front, starts-within}
 use Rattle.rules.specs.Columns.{between}
 use Rattle.rules.specs.Announcement.{minimumText, modeText, levelText}
 use Rattle.rules.specs.declared.Mode.{Mode}
 use Rattle.rules.specs.declared.Mode.the-variants.{Normal, Dvd, Rpo, Mpv}
-use Rattle.words.proofs.Fields.{front-length}
 use Rattle.announced.specs.Announced.{Announced, mode, level, minimumIn, levelIn, lengthAt, minimumBy, minimumAt, levelBy, levelAt, announcedIn, announcedLength}
-
--- what stands at the front
-front-is : (t s : List ℕ) → starts t s ≡ true → take (length t) s ≡ t
-unfolding starts
-front-is [] s h = refl
-front-is (a ∷ t) [] h = cc
-front-is (a ∷ t) (c ∷ s) h = cc (eqb-true a c (and-left (eqb a c) (starts t s) h), front-is t s (and-right (eqb a c) (starts t s) h))
 
 -- a length within the text, and an announcement's where it is not 0
 pub record Stands (s : List ℕ) (r : ℕ) : Type 0 where
@@ -35,7 +28,7 @@ module _ (s : List ℕ) where
   none = record { within = omega arith; told = λ h. absurd (omega arith) }
 
   there : (t : List ℕ) → Announced t → starts t s ≡ true → Stands s (length t)
-  there t a h = record { within = front-length t s h; told = λ k. rw (front-is t s h) a }
+  there t a h = record { within = starts-within t s h; told = λ k. rw (starts-front t s h) a }
 
   chosen : (b : Bool) (x y : ℕ) → (b ≡ true → Stands s x) → (b ≡ false → Stands s y) → Stands s (pick b x y)
   unfolding pick

@@ -1,44 +1,41 @@
 -- The engine's plan and the rules agree: the same refusal, the same print, and the tables hold the day after. Assumes nothing.
-use Prim.Native.Nat.{ℕ, _-_, _*_, _≤_, _<_}
+use Prim.Native.Nat.{ℕ, _-_}
 use native.Mathlib.Omega.{arith}
 use mathlib.Core.Path.{_≡_, refl, sym, ap, _∙_}
-use mathlib.Core.Bool.{Bool, true, false, _&&_, _||_, not}
+use mathlib.Core.Bool.{Bool, true, false, _&&_, not}
 use mathlib.Core.List.{List, []}
 use mathlib.Core.Option.{Option, none, some}
-use lib.Dec.{ltb, leb, eqb}
-use lib.ListN.{length, set, replicate}
-use borrow.Author.Tests.{le-ltb, not-false, not-true}
-use Rattle.text.specs.Bytes.{bytes}
-use Rattle.text.specs.Pick.{pick, opt, among}
+use lib.Dec.{ltb}
+use lib.ListN.{length}
+use borrow.Author.Tests.{le-ltb}
+use Rattle.text.specs.Pick.{pick, opt}
 use Rattle.rules.specs.Names.{nameText}
 use Rattle.rules.specs.Conditions.{onNetwork}
 use Rattle.rules.specs.Side.{sideText}
 use Rattle.rules.specs.Trade.{printsTrade, tradeFull, tradeShows, afterTrade}
 use Rattle.rules.specs.Correction.{correctionText, cancelText, cancelOpening, errorOpening, printsCorrection, correctionFull, correctionShows, cancelFull, cancelShows, afterCorrection}
 use Rattle.rules.specs.Columns.{column}
-use Rattle.rules.specs.Line.{isShaped, isKind, isFormed, isRanged, lineOf, ofKind, nameColumns}
+use Rattle.rules.specs.Line.{isShaped, isFormed, isRanged, lineOf, ofKind, nameColumns}
 use Rattle.rules.specs.Refusal.{refuse}
 use Rattle.rules.specs.Day as rules
-use Rattle.rules.specs.Day.{Day, Call, vacant, noName, opened, cleared, securityAt, nameAt, isEntered, showsTemporary, takenName, entered, tradePrint, cancelPrint, correctionPrint, stateRefusal, dateRefusal, listingRefusal, tradeRefusal, correctionRefusal, undated, refusalOf, afterLine, tapeOf, after}
+use Rattle.rules.specs.Day.{Day, Call, cleared, securityAt, nameAt, isEntered, showsTemporary, entered, tradePrint, cancelPrint, correctionPrint, stateRefusal, dateRefusal, listingRefusal, tradeRefusal, correctionRefusal, undated, refusalOf, afterLine, tapeOf, after}
 use Rattle.rules.specs.declared.Mode.{Mode}
 use Rattle.rules.specs.declared.Listing.{Listing}
 use Rattle.rules.specs.declared.Trade.{Trade}
 use Rattle.rules.specs.declared.Correction.{Correction}
 use Rattle.rules.specs.declared.Line.{Line}
 use Rattle.rules.specs.declared.Line.the-variants.{Dated, Listed, Moded, Leveled, Stepped, Traded, Cancelled, Erred, Corrected}
-use Rattle.rules.specs.declared.Parsed.{Parsed}
 use Rattle.rules.specs.declared.Refusal.{Refusal}
 use Rattle.rules.specs.declared.Refusal.the-variants.{Shape, Kind, NoDate, Form, Value, NotEntered, InUse, Name, SameName, Conditions, Unmatched, DateOrder, Room}
 use Rattle.rules.specs.declared.Settings.{Settings}
 use Rattle.rules.specs.declared.Security.{Security}
-use Rattle.table.specs.Rows.{row, withRow, nameOf, withName, rowsFrom, namesFrom, dayOf}
+use Rattle.rules.proofs.Fields.{name-length}
+use Rattle.table.specs.Rows.{row, nameOf, dayOf}
 use Rattle.table.proofs.Held.{held-security, held-name, security-set, name-set, held-cleared}
-use Rattle.planner.specs.declared.TradePlan.{TradePlan}
 use Rattle.planner.specs.declared.Plan.{Plan}
 use Rattle.planner.specs.declared.Plan.the-variants.{Stop, Open, Enter, Change, Level, Step, Print, Cancel, Correct}
 use Rattle.planner.specs.Plan.{datePlan, listingPlan, unlessStopped, printPlan, tradePlan, cancelOf, cancelPlan, correctionOf, correctionPlan, linePlan, readPlan, planOf, SoundListing, SoundTrade, SoundCorrection, SoundLine}
-use Rattle.planner.proofs.Ranged.{sound-line, shaped, name-length}
-use Rattle.engine.specs.declared.Outcome.{Outcome}
+use Rattle.planner.proofs.Ranged.{sound-line, shaped}
 use Rattle.planprint.specs.Print.{printedName, printText, cancelled, corrected, textOf, fittedOf, printOf}
 use Rattle.engine.specs.Taken.{asked, outcomeOf}
 use Rattle.planstate.specs.After.{settingsAfter, tableAfter, namesAfter}
@@ -68,7 +65,7 @@ correction-parts day c st s n e f g = rw (← e, ← f, ← g)
 -- ---- refusal, print and day of a plan, held to the rules'
 
 -- where nothing stops
-unless : Option Refusal → Type 0 → Type 0
+unfoldable pub unless : Option Refusal → Type 0 → Type 0
 unless (some r) A = Unit {0}
 unless none A = A
 

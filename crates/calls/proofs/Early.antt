@@ -1,15 +1,13 @@
 -- Before the first date line the tables are not asked: a call stops, or opens a day. Assumes nothing.
 use Prim.Native.Nat.{ℕ, _-_}
-use native.Mathlib.Omega.{arith}
 use mathlib.Core.Path.{_≡_, refl, sym, ap, _∙_}
-use mathlib.Core.Bool.{Bool, true, false, _&&_, _||_, not}
+use mathlib.Core.Bool.{Bool, true, false, _&&_, not}
 use mathlib.Core.List.{List, []}
 use lib.Dec.{eqb, ltb}
-use lib.ListN.{length, replicate}
-use borrow.Author.Tests.{not-false}
+use lib.ListN.{length}
 use Rattle.text.specs.Pick.{pick}
 use Rattle.rules.specs.Columns.{column, columns, numberIn, valueOf}
-use Rattle.rules.specs.Line.{isShaped, isFormed, isRanged, lineOf, ofKind, nameColumns}
+use Rattle.rules.specs.Line.{lineOf, ofKind, nameColumns}
 use Rattle.rules.specs.Day.{opened}
 use Rattle.rules.specs.declared.Line.{Line}
 use Rattle.rules.specs.declared.Line.the-variants.{Dated}
@@ -43,12 +41,12 @@ alike true p q r h = refl
 alike false p q r h = h refl
 
 -- a D line is a date
-dated : (kind : ℕ) (line : List ℕ) → eqb kind 68 ≡ true → (ofKind kind line) .line ≡ Dated (valueOf (numberIn (columns 2 9 line)))
+pub dated : (kind : ℕ) (line : List ℕ) → eqb kind 68 ≡ true → (ofKind kind line) .line ≡ Dated (valueOf (numberIn (columns 2 9 line)))
 unfolding ofKind pick
 dated kind line h = rw h
 
 -- not refused 3, so a D line
-is-date : (b : Bool) → (not b && true) ≡ false → b ≡ true
+pub is-date : (b : Bool) → (not b && true) ≡ false → b ≡ true
 is-date true h = refl
 is-date false h = sym h
 

@@ -1,27 +1,23 @@
 -- A list of calls from a fresh state prints the rules' tape, and its tables hold the rules' day. Assumes nothing.
-use Prim.Native.Nat.{ℕ, _+_, _-_, _*_, _≤_, _<_}
+use Prim.Native.Nat.{ℕ, _+_, _-_, _*_, _≤_}
 use native.Mathlib.Omega.{arith}
 use mathlib.Core.Path.{_≡_, refl, sym, ap, _∙_}
-use mathlib.Core.Bool.{Bool, true, false}
-use mathlib.Core.List.{List, [], _∷_, _++_}
-use mathlib.Core.Option.{Option, none, some}
+use mathlib.Core.List.{List, _++_}
 use lib.ListN.{length, take, drop, replicate, length-append, length-take, length-drop}
 use lib.Seq.{take-at}
 use Rattle.text.specs.Put.{put}
 use Rattle.rules.specs.Line.{nameColumns}
-use Rattle.rules.specs.Day.{Day, Call, opened, cleared, fresh, tapeOf, after, refusalOf}
+use Rattle.rules.specs.Day.{Day, opened, fresh, tapeOf, after, refusalOf}
 use Rattle.rules.specs.declared.Settings.{Settings}
-use Rattle.rules.specs.declared.Refusal.{Refusal}
-use Rattle.table.specs.Rows.{dayOf, withRow, withName, numbers}
+use Rattle.rules.proofs.Fields.{name-length}
+use Rattle.table.specs.Rows.{dayOf, withName, numbers}
 use Rattle.table.proofs.Places.{length-stored}
 use Rattle.table.proofs.Held.{held-cleared}
 use Rattle.planner.specs.declared.Plan.{Plan}
 use Rattle.planner.specs.declared.Plan.the-variants.{Stop, Open, Enter, Change, Level, Step, Print, Cancel, Correct}
 use Rattle.planner.specs.Plan.{planOf}
-use Rattle.engine.specs.declared.Outcome.{Outcome}
-use Rattle.engine.specs.declared.Outcome.the-variants.{Accepted, Refused}
 use Rattle.engine.specs.declared.Answer.{Answer}
-use Rattle.planprint.specs.Print.{printedName, textOf, fittedOf, printOf, SoundPlan}
+use Rattle.planprint.specs.Print.{printedName, textOf, printOf, SoundPlan}
 use Rattle.engine.specs.Taken.{asked, outcomeOf, Taken}
 use Rattle.planstate.specs.After.{settingsAfter, tableAfter, namesAfter}
 use Rattle.planprint.proofs.Sound.{sound-asked}
@@ -47,9 +43,6 @@ table-length table (Print t) h = length-stored (numbers (t .after)) table (t .pl
 table-length table (Cancel t) h = h
 table-length table (Correct c) h = length-stored (numbers (c .after)) table (c .place * 11) 0 ∙ h
 
-columns-length : (line : List ℕ) → length line ≡ 100 → length (nameColumns line) ≡ 19
-columns-length line h = rw (length-take, length-drop) (omega arith)
-
 with-name-length : (names name : List ℕ) (at : ℕ) → at + length name ≤ length names → length (withName names at name) ≡ length names
 unfolding withName
 with-name-length names name at h = simp (length-append, length-take, length-drop) (omega arith)
@@ -58,7 +51,7 @@ names-length : (names line : List ℕ) (p : Plan) → SoundPlan line p → lengt
 unfolding namesAfter SoundPlan
 names-length names line (Stop r) k h = h
 names-length names line (Open n) k h = refl
-names-length names line (Enter i s) k h = with-name-length names (nameColumns line) (i * 19) (omega (arith, k .0, columns-length line (k .1), h)) ∙ h
+names-length names line (Enter i s) k h = with-name-length names (nameColumns line) (i * 19) (omega (arith, k .0, name-length line (k .1), h)) ∙ h
 names-length names line (Change m) k h = h
 names-length names line (Level n) k h = h
 names-length names line (Step n) k h = h

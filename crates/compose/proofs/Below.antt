@@ -1,20 +1,16 @@
 -- What a field that is read owes: a number is below ten to the power of its columns; what does not stand there is 0. Assumes nothing.
-use Prim.Native.Nat.{ℕ, zero, suc, _+_, _-_, _*_, _^_, _≤_, _<_}
-use native.Mathlib.Nat.{pow-suc, pow-le-pow-right, one-le-pow, mul-le-mul-right, mul-assoc, mul-comm}
+use Prim.Native.Nat.{ℕ, zero, suc, _-_, _≤_, _<_}
 use native.Mathlib.Omega.{arith}
-use mathlib.Core.Path.{_≡_, refl, sym, ap, _∙_}
-use mathlib.Core.Bool.{Bool, true, false, _&&_, _||_, not}
+use mathlib.Core.Path.{_≡_, refl, sym}
+use mathlib.Core.Bool.{Bool, true, false, not}
 use mathlib.Core.List.{List, [], _∷_}
-use lib.Dec.{leb, ltb, eqb}
-use lib.ListN.{length, take, drop, length-take}
+use lib.ListN.{length, drop, length-take}
 use lib.Seq.{take-take}
-use borrow.Author.Tests.{leb-true}
 use Rattle.text.specs.Pick.{pick, among}
-use Rattle.text.specs.Reading.{Read, found, before, span, isDigit}
-use Rattle.text.proofs.Texts.{and-left, and-right}
-use Rattle.rules.specs.Columns.{columns, isBlank, justified, digitsFrom, zeroAlone, numeral, numberIn, isNumber, valueOf, between}
+use Rattle.text.specs.Reading.{Read, found, before}
+use Rattle.rules.specs.Columns.{columns, isNumber, valueOf}
 use Rattle.rules.specs.Names.{rootField}
-use Rattle.rules.specs.Line.{volumeIn, alike, nameColumns, isSecurityNumber, isUnit}
+use Rattle.rules.specs.Line.{volumeIn, alike, nameColumns, isUnit}
 use Rattle.rules.specs.declared.Number.{Number}
 use Rattle.rules.specs.declared.Number.the-variants.{Blank, Bad, Is}
 use Rattle.widths.proofs.Below.{number-below}
@@ -24,15 +20,6 @@ next-short : (t : Bool) (c : ℕ) (r : Read (List ℕ)) (s : List ℕ) → lengt
 unfolding pick
 next-short true c r s h = omega (h, arith)
 next-short false c r s h = omega arith
-
--- a field's text is no longer than the field
-pub span-short : (p : ℕ → Bool) (s : List ℕ) → length ((span p s) .got) ≤ length s
-unfolding span
-span-short p [] = omega arith
-span-short p (c ∷ s) = go (p c) (span-short p s)
-  where
-    go : (t : Bool) → length ((span p s) .got) ≤ length s → length ((pick t (before c (span p s)) (found [] (c ∷ s))) .got) ≤ suc (length s)
-    go t h = next-short t c (span p s) s h
 
 pub volume-below : (side : List ℕ) → valueOf (volumeIn side) < 1000000000
 volume-below side = number-below 9 (columns 1 9 side) (omega (arith, length-take 9 side))
@@ -44,10 +31,6 @@ unmatched true n h e = absurd (false-true (sym e))
 unmatched false Blank h e = refl
 unmatched false Bad h e = refl
 unmatched false (Is n) h e = absurd (false-true h)
-
-pub security-is : (n : ℕ) → isSecurityNumber n ≡ true → (1 ≤ n) × (n ≤ 512)
-unfolding isSecurityNumber between
-security-is n h = (leb-true 1 n (and-left (leb 1 n) (leb n 512) h), leb-true n 512 (and-right (leb 1 n) (leb n 512) h))
 
 pub unit-some : (n : ℕ) → isUnit n ≡ true → 1 ≤ n
 unfolding isUnit among

@@ -3,21 +3,19 @@ use Prim.Native.Nat.{ℕ, suc, zero, _+_, _*_, _-_, _/_, _%_, _^_, _≤_, _<_}
 use native.Mathlib.Nat.{pow-succ', add-mul, mul-assoc, zero-mul, zero-add}
 use native.Mathlib.Omega.{arith}
 use mathlib.Core.Path.{_≡_, refl, sym, ap, _∙_}
-use mathlib.Core.Bool.{Bool, true, false, _&&_, _||_, not}
-use mathlib.Core.List.{List, [], _∷_, _++_, map}
-use lib.Dec.{eqb, leb}
+use mathlib.Core.Bool.{Bool, true, false, _&&_}
+use mathlib.Core.List.{List, [], _∷_}
+use lib.Dec.{eqb}
 use borrow.Author.Tests.{eqb-true, eqb-false}
-use Rattle.text.specs.Pick.{pick, opt, all}
-use Rattle.text.specs.Reading.{isDigit}
+use Rattle.text.specs.Pick.{pick, all}
 use Rattle.text.proofs.Reading.{digit-yes}
 use Rattle.rules.specs.Columns.{isBlank, justified, digitsFrom, zeroAlone, numeral, numberIn}
-use Rattle.rules.specs.declared.Number.{Number}
-use Rattle.rules.specs.declared.Number.the-variants.{Blank, Bad, Is}
+use Rattle.rules.specs.declared.Number.the-variants.{Blank, Is}
 use Rattle.rules.specs.Columns.{between}
 use Rattle.rules.specs.Line.{isPrintable}
 use lib.ListN.{length}
-use Rattle.text.proofs.Texts.{and-left, and-right}
 use Rattle.text.proofs.Tests.{is-le}
+use Rattle.text.proofs.Booleans.{nonzero}
 use Rattle.compose.specs.Columns.{digitsBefore, numberField, textField, firstOr, later, filledIf}
 
 from-digit : (a q : ℕ) (s : List ℕ) → q < 10 → digitsFrom a ((48 + q) ∷ s) ≡ digitsFrom (a * 10 + q) s
@@ -40,10 +38,6 @@ digit-not-blank q = eqb-no (48 + q) 32 (λ e. omega (e, arith))
 -- digits of weight w that are worth v, read onto any number before them
 abbrev Worth : List ℕ → ℕ → ℕ → Type 0
 Worth s w v = (a : ℕ) → digitsFrom a s ≡ Is (a * w + v)
-
-nonzero : (n : ℕ) → (n ≡ 0 → ⊥) → 1 ≤ n
-nonzero zero h = absurd (h refl)
-nonzero (suc n) h = omega arith
 
 sums : (m w v : ℕ) → m / 10 * (10 * w) + (m % 10 * w + v) ≡ m * w + v
 sums m w v =
@@ -162,11 +156,6 @@ filled-number false k n h = left-blank (numberField (suc k) n)
 
 both-true : (a b : Bool) → a ≡ true → b ≡ true → (a && b) ≡ true
 both-true a b h l = rw (h, l)
-
-pub all-both : (p : ℕ → Bool) (s t : List ℕ) → all p s ≡ true → all p t ≡ true → all p (s ++ t) ≡ true
-unfolding all
-all-both p [] t h l = l
-all-both p (c ∷ s) t h l = both-true (p c) (all p (s ++ t)) (and-left (p c) (all p s) h) (all-both p s t (and-right (p c) (all p s) h) l)
 
 printable-digit : (q : ℕ) → q < 10 → isPrintable (48 + q) ≡ true
 unfolding isPrintable between

@@ -1,19 +1,17 @@
 -- Letters that a print shows stand in four columns: every set of them tried. Assumes nothing.
-use Prim.Native.Nat.{ℕ, _+_}
 use mathlib.Core.Path.{_≡_, refl, sym, ap, _∙_}
 use mathlib.Core.Bool.{Bool, true, false, _&&_, _||_, not}
-use mathlib.Core.List.{List, [], _∷_, _++_}
-use lib.Dec.{leb, eqb}
+use lib.Dec.{leb}
 use Rattle.text.specs.Pick.{pick, opt, all, among}
 use Rattle.text.specs.Reading.{span}
 use Rattle.text.proofs.Texts.{and-left, and-right}
+use Rattle.text.proofs.Booleans.{implied}
 use Rattle.rules.specs.Columns.{isBlank, blank, word, filled, between}
 use Rattle.rules.specs.Conditions.{isCondition, lettersFormed, lettersIn, unrepeated, noneOf, atMostOne, lawfulLetters}
 use Rattle.rules.specs.Line.{isPrintable}
 use Rattle.rules.specs.declared.Letters.{Letters}
 use Rattle.named.specs.Cut.{oneSold}
 use borrow.Author.Tests.{not-true}
-use Rattle.named.proofs.Root.{false-true}
 use Rattle.compose.specs.Columns.{firstOr, later, textField, lettersText, lettersColumns}
 use Rattle.compose.specs.Shown.{letterCount, oneDelivery, showable}
 
@@ -125,17 +123,13 @@ pub record Said (x : Letters) : Type 0 where
   pub letters : lettersIn (lettersColumns x) ≡ x
   pub printable : all isPrintable (lettersColumns x) ≡ true
 
-or-right : (a b : Bool) → a ≡ true → (not a || b) ≡ true → b ≡ true
-or-right true b h e = e
-or-right false b h e = absurd (false-true h)
-
 pub letters-said : (x : Letters) → showable x ≡ true → Said x
 unfolding showable fine
 letters-said x h0 =
     let h1 = and-right (not (x .n)) _ h0 in
     let n = not-true (x .n) (and-left (not (x .n)) _ h0) in
     let c = not-true (x .c) (and-left (not (x .c)) _ h1) in
-    let e = or-right (not (x .n) && (not (x .c) && (leb (letterCount x) 4 && (oneSold x && oneDelivery x)))) _ h0 (fine-letters x n c) in
+    let e = implied (not (x .n) && (not (x .c) && (leb (letterCount x) 4 && (oneSold x && oneDelivery x)))) _ h0 (fine-letters x n c) in
     let e1 = and-right (lettersFormed (lettersColumns x)) _ e in
     let e2 = and-right (lawfulLetters (lettersColumns x)) _ e1 in
     record {

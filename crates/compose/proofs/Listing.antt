@@ -1,38 +1,30 @@
 -- The S line that enters a security is accepted on a day with nothing entered. Assumes nothing.
-use Prim.Native.Nat.{ℕ, suc, zero, _+_, _-_, _/_, _%_, _^_, _≤_, _<_}
+use Prim.Native.Nat.{ℕ, suc, zero, _-_, _^_, _≤_, _<_}
 use native.Mathlib.Omega.{arith}
-use mathlib.Core.Path.{_≡_, refl, sym, ap, _∙_}
-use mathlib.Core.Bool.{Bool, true, false, _&&_, _||_, not}
-use mathlib.Core.List.{List, [], _∷_, _++_, map}
-use mathlib.Core.Option.{Option, none, some}
-use lib.Dec.{leb, ltb, eqb}
-use lib.ListN.{take, drop, length, getD, set, replicate}
-use borrow.Author.Tests.{eqb-true, leb-true}
+use mathlib.Core.Path.{_≡_, refl, ap, _∙_}
+use mathlib.Core.Bool.{Bool, true, false, _&&_, _||_}
+use mathlib.Core.List.{List, [], _∷_}
+use mathlib.Core.Option.{Option, none}
+use lib.Dec.{eqb}
+use lib.ListN.{take, length, replicate}
+use borrow.Author.Tests.{eqb-true}
 use Rattle.text.specs.Pick.{pick, all, among}
-use Rattle.text.proofs.Texts.{and-left, and-right}
-use Rattle.rules.specs.Columns.{columns, column, blank, isBlank, numberIn, isNumber, valueOf, between, isRoot}
-use Rattle.rules.specs.Names.{lawfulName}
+use Rattle.text.proofs.Parts.{all-append}
+use Rattle.rules.specs.Columns.{columns, column, blank, isBlank, numberIn, isNumber, valueOf, between}
 use Rattle.rules.specs.Line.{isPrintable, isShaped, isKind, isMarket, isNetwork, isUnit, isSecurityNumber, listingFormed, listingRanged, listingOf, nameColumns, ofKind, isFormed, isRanged, lineOf}
 use Rattle.rules.specs.Refusal.{refuse}
-use Rattle.rules.specs.Day.{Day, cleared, opened, vacant, noName, withSettings, isEntered, takenName, securityAt, nameAt, listingRefusal, stateRefusal, undated, refusalOf, printOf, entered, afterLine}
-use Rattle.rules.specs.NormalPrint.{levelDay, listedDay}
-use Rattle.rules.specs.declared.Number.{Number}
-use Rattle.rules.specs.declared.Number.the-variants.{Blank, Bad, Is}
-use Rattle.rules.specs.declared.Mode.{Mode}
-use Rattle.rules.specs.declared.Mode.the-variants.{Normal}
+use Rattle.rules.specs.Day.{cleared, vacant, noName, isEntered, takenName, listingRefusal, stateRefusal, undated, refusalOf, printOf, entered}
+use Rattle.rules.specs.NormalPrint.{levelDay}
+use Rattle.rules.specs.declared.Number.the-variants.{Is}
 use Rattle.rules.specs.declared.Listing.{Listing}
-use Rattle.rules.specs.declared.Line.{Line}
 use Rattle.rules.specs.declared.Line.the-variants.{Listed}
 use Rattle.rules.specs.declared.Refusal.{Refusal}
-use Rattle.rules.specs.declared.Refusal.the-variants.{Shape, Kind, NoDate, Form, Value, InUse, Name, SameName, Room}
-use Rattle.rules.specs.declared.Settings.{Settings}
-use Rattle.rules.specs.declared.Security.{Security}
 use Rattle.named.proofs.Root.{false-true}
-use Rattle.compose.specs.Columns.{digitsBefore, numberField, firstOr, later, textField, blanks}
+use Rattle.compose.specs.Columns.{digitsBefore, numberField, later, textField, blanks}
 use Rattle.compose.specs.Lines.{listingLine}
 use Rattle.compose.specs.Shown.{Enterable}
 use Rattle.compose.proofs.ByKind.{line-by, formed-by, ranged-by}
-use Rattle.compose.proofs.Fields.{number-back, text-filled, all-both, printable-number}
+use Rattle.compose.proofs.Fields.{number-back, text-filled, printable-number}
 
 pub blanks-printable : (k : ℕ) → all isPrintable (blanks k) ≡ true
 unfolding blanks all isPrintable between
@@ -156,11 +148,11 @@ module _ (network unit : ℕ) (name : List ℕ) (h : Enterable network unit name
   shaped : isShaped (listingLine network unit name) ≡ true
   unfolding isShaped listingLine
   shaped =
-      let e = all-both isPrintable _ (blanks 70)
-      (all-both isPrintable _ (network ∷ 65 ∷ 48 ∷ [])
-      (all-both isPrintable _ (numberField 3 unit)
-      (all-both isPrintable _ (textField 19 name)
-      (all-both isPrintable (83 ∷ []) (numberField 4 1) s-printable (printable-number 4 1))
+      let e = all-append isPrintable _ (blanks 70)
+      (all-append isPrintable _ (network ∷ 65 ∷ 48 ∷ [])
+      (all-append isPrintable _ (numberField 3 unit)
+      (all-append isPrintable _ (textField 19 name)
+      (all-append isPrintable (83 ∷ []) (numberField 4 1) s-printable (printable-number 4 1))
       (ap (all isPrintable) (text-filled 19 name (h .sized)) ∙ h .printable))
       (printable-number 3 unit))
       (three-printable network (network-printable network (h .on))))

@@ -1,12 +1,12 @@
 -- Whatever one line can show is a normal print: its S line and its own line are accepted and print it. Assumes nothing.
-use Prim.Native.Nat.{ℕ, suc, zero, _+_, _-_, _^_, _≤_, _<_}
+use Prim.Native.Nat.{ℕ, _+_, _-_, _^_, _≤_, _<_}
 use native.Mathlib.Omega.{arith}
 use mathlib.Core.Path.{_≡_, refl, sym, ap, _∙_}
-use mathlib.Core.Bool.{Bool, true, false, _&&_, _||_, not}
+use mathlib.Core.Bool.{Bool, true, false, _&&_, not}
 use mathlib.Core.List.{List, [], _∷_, _++_}
 use mathlib.Core.Option.{Option, none, some}
 use lib.Dec.{leb, ltb, eqb}
-use lib.ListN.{length, getD, set, replicate}
+use lib.ListN.{length, set}
 use borrow.Author.Tests.{leb-true}
 use Rattle.text.proofs.Texts.{and-right}
 use Rattle.text.specs.Pick.{pick, opt, all, among, same, member}
@@ -15,37 +15,32 @@ use Rattle.rules.specs.Columns.{column, columns, between, isRoot, filled, blank
 use Rattle.rules.specs.Tape.{isLetter}
 use Rattle.text.specs.Reading.{span}
 use Rattle.rules.specs.Announcement.{modeText, minimumText, minimumDollars, levelText}
-use Rattle.rules.specs.declared.Number.{Number}
-use Rattle.rules.specs.declared.Number.the-variants.{Blank, Bad, Is}
+use Rattle.rules.specs.declared.Number.the-variants.{Is}
 use Rattle.rules.specs.Names.{nameText, hasTemporary, lawfulName, lawfulField, isReserved, isSuffix, isTemporary, isAppendage}
 use Rattle.rules.specs.Price.{units, priceText}
-use Rattle.rules.specs.Conditions.{onNetwork, afterName}
+use Rattle.rules.specs.Conditions.{afterName}
 use Rattle.rules.specs.Side.{headText, tailText, sideText}
 use Rattle.rules.specs.Volume.{volumeText, fullVolume}
 use Rattle.text.specs.Bytes.{bytes}
+use Rattle.text.proofs.Parts.{all-append}
 use Rattle.rules.specs.Trade.{printsTrade, tradeFull, tradeShows, isNormal}
 use Rattle.rules.specs.Correction.{repeatsName, endPair, cancelText, correctionText, cancelOpening, errorOpening, cancelFull, cancelShows, printsCorrection, correctionFull, correctionShows}
 use Rattle.rules.specs.Line.{isPrintable, isShaped, isKind, isFormed, isRanged, lineOf, ofKind, nameColumns, isUnit, isNetwork, isMode, modeOf, modeFormed, levelFormed, levelRanged}
 use Rattle.rules.specs.Refusal.{refuse}
-use Rattle.rules.specs.Day.{Day, cleared, opened, vacant, noName, isEntered, securityAt, nameAt, tradeRefusal, correctionRefusal, stateRefusal, undated, refusalOf, printOf, tradePrint, cancelPrint, correctionPrint, showsTemporary, entered, afterLine}
-use Rattle.rules.specs.Shown.{Conditions, conditionsOf, Part, inFull, partOf, Fact, announced, announcedIf, traded, cancelled, erred, corrected, factOf, tradeFact, shownVolume}
+use Rattle.rules.specs.Day.{Day, cleared, isEntered, securityAt, tradeRefusal, correctionRefusal, stateRefusal, undated, refusalOf, printOf, tradePrint, cancelPrint, correctionPrint, showsTemporary, entered, afterLine}
+use Rattle.rules.specs.Shown.{conditionsOf, inFull, partOf, Fact, announced, announcedIf, traded, cancelled, erred, corrected, factOf, tradeFact, shownVolume}
 use Rattle.rules.specs.NormalPrint.{ReadFact, readAnnouncement, readTrade, readCancel, readError, readCorrection, readFact, nameOf, levelDay, listedDay, NormalPrint}
 use Rattle.rules.specs.declared.Mode.{Mode}
 use Rattle.rules.specs.declared.Mode.the-variants.{Normal, Dvd, Rpo, Mpv}
-use Rattle.rules.specs.declared.Letters.{Letters}
 use Rattle.rules.specs.declared.Side.{Side}
-use Rattle.rules.specs.declared.Trade.{Trade}
-use Rattle.rules.specs.declared.Correction.{Correction}
 use Rattle.rules.specs.declared.Line.{Line}
 use Rattle.rules.specs.declared.Line.the-variants.{Listed, Moded, Leveled, Traded, Cancelled, Erred, Corrected}
 use Rattle.rules.specs.declared.Refusal.{Refusal}
-use Rattle.rules.specs.declared.Refusal.the-variants.{NoDate, NotEntered, Conditions as ConditionsRefusal, Unmatched, Room}
-use Rattle.rules.specs.declared.Security.{Security}
-use Rattle.rules.specs.declared.Settings.{Settings}
+use Rattle.rules.specs.declared.Refusal.the-variants.{NoDate}
 use Rattle.named.proofs.Back.{name-some}
 use Rattle.named.specs.Plain.{NamePlain}
 use Rattle.compose.specs.Columns.{digitsBefore, numberField, firstOr, later, textField, blanks}
-use Rattle.compose.proofs.Fields.{number-back, all-both, printable-number}
+use Rattle.compose.proofs.Fields.{number-back, printable-number}
 use Rattle.compose.specs.Lines.{listingLine, tradeLine, correctionLine, modeLetter, modeLine, levelLine}
 use Rattle.compose.specs.Shown.{Enterable, Showable}
 use Rattle.compose.specs.Printable.{Printable, by-mode, by-level, by-trade, by-cancel, by-error, by-correction}
@@ -388,7 +383,7 @@ v-printable = refl
 
 level-shaped : (n : ℕ) → isShaped (levelLine n) ≡ true
 unfolding isShaped levelLine
-level-shaped n = shape (levelLine n) (level-long n) (all-both isPrintable _ (blanks 93) (all-both isPrintable (86 ∷ []) (numberField 6 n) v-printable (printable-number 6 n)) (blanks-printable 93))
+level-shaped n = shape (levelLine n) (level-long n) (all-append isPrintable _ (blanks 93) (all-append isPrintable (86 ∷ []) (numberField 6 n) v-printable (printable-number 6 n)) (blanks-printable 93))
 
 some-level : (n : ℕ) → 1 ≤ length (levelText n)
 unfolding levelText

@@ -1,23 +1,21 @@
 -- The T, X, E and C lines that say given sides are accepted of the security entered. Assumes nothing.
-use Prim.Native.Nat.{ℕ, suc, zero, _+_, _-_, _/_, _%_, _^_, _≤_, _<_}
+use Prim.Native.Nat.{ℕ, _-_}
 use native.Mathlib.Omega.{arith}
-use mathlib.Core.Path.{_≡_, refl, sym, ap, _∙_}
-use mathlib.Core.Bool.{Bool, true, false, _&&_, _||_, not}
-use mathlib.Core.List.{List, [], _∷_, _++_}
-use lib.Dec.{leb, ltb, eqb}
-use lib.ListN.{take, drop, length}
-use Rattle.text.specs.Pick.{pick, all, among}
-use Rattle.rules.specs.Columns.{columns, column, blank, numberIn, isNumber, valueOf, between}
-use Rattle.rules.specs.Conditions.{lawfulLetters}
-use Rattle.rules.specs.Line.{isPrintable, isShaped, isMarket, isSecurityNumber, firstSide, secondSide, lettersField, sideFormed, sideRanged, sideOf, sideMatched, tradeFormed, tradeRanged, tradeOf, correctionFormed, correctionRanged, correctionOf}
-use Rattle.rules.specs.declared.Number.{Number}
-use Rattle.rules.specs.declared.Number.the-variants.{Blank, Bad, Is}
+use mathlib.Core.Path.{_≡_, refl}
+use mathlib.Core.Bool.{true}
+use mathlib.Core.List.{[], _∷_}
+use lib.ListN.{length}
+use Rattle.text.specs.Pick.{all, among}
+use Rattle.text.proofs.Parts.{all-append}
+use Rattle.rules.specs.Columns.{columns, column, numberIn, isNumber, valueOf, between}
+use Rattle.rules.specs.Line.{isPrintable, isShaped, isMarket, isSecurityNumber, firstSide, secondSide, tradeFormed, tradeRanged, tradeOf, correctionFormed, correctionRanged, correctionOf}
+use Rattle.rules.specs.declared.Number.the-variants.{Is}
 use Rattle.rules.specs.declared.Side.{Side}
 use Rattle.rules.specs.declared.Trade.{Trade}
 use Rattle.rules.specs.declared.Correction.{Correction}
 use Rattle.compose.specs.Columns.{digitsBefore, numberField, textField, lettersColumns, filledIf, blanks}
 use Rattle.compose.specs.Lines.{sideColumns, tradeLine, correctionLine}
-use Rattle.compose.proofs.Fields.{number-back, all-both, printable-number}
+use Rattle.compose.proofs.Fields.{number-back, printable-number}
 use Rattle.compose.proofs.Sides.{SideSaid}
 use Rattle.compose.proofs.Listing.{blanks-printable, blanks-blank, shape}
 
@@ -67,10 +65,10 @@ module _ (kind : ℕ) (x : Side) where
     pub trade-shaped : all isPrintable (kind ∷ []) ≡ true → isShaped (tradeLine kind x) ≡ true
     unfolding isShaped tradeLine
     trade-shaped k =
-        let e = all-both isPrintable _ (blanks 48)
-        (all-both isPrintable _ (sideColumns x)
-        (all-both isPrintable _ (65 ∷ [])
-        (all-both isPrintable (kind ∷ []) (numberField 4 1) k (printable-number 4 1))
+        let e = all-append isPrintable _ (blanks 48)
+        (all-append isPrintable _ (sideColumns x)
+        (all-append isPrintable _ (65 ∷ [])
+        (all-append isPrintable (kind ∷ []) (numberField 4 1) k (printable-number 4 1))
         market-printable)
         (s .printable))
         (blanks-printable 48) in
@@ -123,11 +121,11 @@ module _ (x y : Side) where
     pub correction-shaped : isShaped (correctionLine x y) ≡ true
     unfolding isShaped correctionLine
     correction-shaped =
-        let e = all-both isPrintable _ (blanks 2)
-        (all-both isPrintable _ (sideColumns y)
-        (all-both isPrintable _ (sideColumns x)
-        (all-both isPrintable _ (65 ∷ [])
-        (all-both isPrintable (67 ∷ []) (numberField 4 1) c-printable (printable-number 4 1))
+        let e = all-append isPrintable _ (blanks 2)
+        (all-append isPrintable _ (sideColumns y)
+        (all-append isPrintable _ (sideColumns x)
+        (all-append isPrintable _ (65 ∷ [])
+        (all-append isPrintable (67 ∷ []) (numberField 4 1) c-printable (printable-number 4 1))
         market-printable)
         (s .printable))
         (r .printable))

@@ -1,27 +1,25 @@
 -- A side's columns say the side. Assumes nothing.
-use Prim.Native.Nat.{ℕ, suc, zero, _+_, _-_, _/_, _%_, _^_, _≤_, _<_}
+use Prim.Native.Nat.{ℕ, _+_, _-_, _^_, _≤_, _<_}
 use native.Mathlib.Nat.{pow-le-pow-right, lt-of-lt-of-le}
 use native.Mathlib.Omega.{arith}
 use mathlib.Core.Path.{_≡_, refl, sym, ap, _∙_}
-use mathlib.Core.Bool.{Bool, true, false, _&&_, _||_, not}
-use mathlib.Core.List.{List, [], _∷_, _++_, map}
-use lib.Dec.{leb, ltb, eqb}
-use lib.ListN.{take, drop, length}
+use mathlib.Core.Bool.{Bool, true, false, _&&_}
+use lib.Dec.{leb, eqb}
 use borrow.Author.Tests.{eqb-true, leb-true, ltb-true}
 use Rattle.text.specs.Pick.{pick, all}
 use Rattle.text.proofs.Texts.{and-left, and-right}
-use Rattle.rules.specs.Columns.{columns, numberIn, isNumber, numberOrBlank, valueOf, passes, between}
-use Rattle.rules.specs.Conditions.{lettersFormed, lettersIn, lawfulLetters}
+use Rattle.text.proofs.Parts.{all-append}
+use Rattle.rules.specs.Columns.{columns, isNumber, numberOrBlank, valueOf, passes, between}
+use Rattle.rules.specs.Conditions.{lawfulLetters}
 use Rattle.rules.specs.Line.{isPrintable, isPrice, previousRanged, formedBy, rangedBy, sideBy, matchedBy, alike, sideFormed, sideRanged, sideOf, sideMatched, volumeIn, priceIn, decimalsIn, lettersField, daysIn, previousIn, previousDecimalsIn}
 use Rattle.rules.specs.declared.Number.{Number}
-use Rattle.rules.specs.declared.Number.the-variants.{Blank, Bad, Is}
-use Rattle.rules.specs.declared.Letters.{Letters}
+use Rattle.rules.specs.declared.Number.the-variants.{Blank, Is}
 use Rattle.rules.specs.declared.Price.{Price}
 use Rattle.rules.specs.declared.Side.{Side}
-use Rattle.compose.specs.Columns.{digitsBefore, numberField, firstOr, later, textField, lettersColumns, filledIf, blanks}
+use Rattle.compose.specs.Columns.{digitsBefore, numberField, textField, lettersColumns, filledIf}
 use Rattle.compose.specs.Lines.{sideColumns}
-use Rattle.compose.specs.Shown.{showable, Showable}
-use Rattle.compose.proofs.Fields.{number-back, filled-number, all-both, printable-number, printable-if}
+use Rattle.compose.specs.Shown.{Showable}
+use Rattle.compose.proofs.Fields.{number-back, filled-number, printable-number, printable-if}
 use Rattle.compose.proofs.Letters.{Said, letters-said}
 
 -- a number that is there or left blank
@@ -193,12 +191,12 @@ module _ (network : ℕ) (x : Side) (h : Showable network x) where
   said-printable : all isPrintable (sideColumns x) ≡ true
   unfolding sideColumns
   said-printable =
-      all-both isPrintable _ (filledIf (x .letters .g) (numberField 1 (x .previous .d)))
-      (all-both isPrintable _ (filledIf (x .letters .g) (numberField 14 (x .previous .n)))
-      (all-both isPrintable _ (filledIf (x .letters .r) (numberField 3 (x .days)))
-      (all-both isPrintable _ (lettersColumns (x .letters))
-      (all-both isPrintable _ (numberField 1 (x .price .d))
-      (all-both isPrintable _ (numberField 14 (x .price .n))
+      all-append isPrintable _ (filledIf (x .letters .g) (numberField 1 (x .previous .d)))
+      (all-append isPrintable _ (filledIf (x .letters .g) (numberField 14 (x .previous .n)))
+      (all-append isPrintable _ (filledIf (x .letters .r) (numberField 3 (x .days)))
+      (all-append isPrintable _ (lettersColumns (x .letters))
+      (all-append isPrintable _ (numberField 1 (x .price .d))
+      (all-append isPrintable _ (numberField 14 (x .price .n))
       (printable-number 9 (x .volume))
       (printable-number 14 (x .price .n)))
       (printable-number 1 (x .price .d)))

@@ -1,23 +1,22 @@
 -- The conditions after a price and at the end come back from their text. Assumes nothing.
 use Prim.Native.Nat.{ℕ, _≤_}
-use mathlib.Core.Path.{_≡_, refl, ap, sym, _∙_}
-use mathlib.Core.List.{List, [], _∷_, _++_, append-assoc}
-use mathlib.Core.Bool.{Bool, true, false, _||_}
-use mathlib.Core.Option.{Option, none, some}
+use mathlib.Core.Path.{_≡_, refl}
+use mathlib.Core.List.{List, _++_, append-assoc}
+use mathlib.Core.Bool.{Bool, true, false}
+use mathlib.Core.Option.{none, some}
 use Rattle.text.specs.Bytes.{bytes}
 use Rattle.text.specs.Pick.{pick, opt}
-use Rattle.text.specs.Reading.{Read, found, heads, isDigit, starts, past, taken}
-use Rattle.text.proofs.Reading.{read-decimal, starts-append, past-append, taken-opt, not-opt}
-use Rattle.rules.specs.Price.{units, priceText}
+use Rattle.text.specs.Reading.{found, heads, isDigit, starts, past}
+use Rattle.text.proofs.Reading.{read-decimal, taken-opt, not-opt}
+use Rattle.rules.specs.Price.{units}
 use Rattle.rules.specs.Conditions.{afterPrice, sellerText, previousText, atEnd}
 use Rattle.rules.specs.Side.{tailText}
 use Rattle.rules.specs.declared.Price.{Price}
 use Rattle.rules.specs.declared.Side.{Side}
 use Rattle.volumes.specs.Reading.{markAt}
-use Rattle.prices.specs.Reading.{readPrice}
 use Rattle.text.specs.Reading.{dotDigit}
 use Rattle.prices.proofs.PriceBack.{NoMore, price-back, full-price}
-use Rattle.conditions.specs.Reading.{readDays, readPrevious, Tail, readTail, if-there, tailOf}
+use Rattle.conditions.specs.Reading.{readDays, readPrevious, readTail, if-there, tailOf}
 
 -- what may follow a side: nothing that goes on with any part of its tail
 pub record Ends (s : List ℕ) : Type 0 where
@@ -48,7 +47,7 @@ previous-no : (s : List ℕ) → starts (bytes ">>PREV.LAST") s ≡ false → re
 unfolding readPrevious
 previous-no s e = rw (e, readPrevious)
 
-pair-ends : (s : List ℕ) → NoMore (bytes ">>" ++ s)
+pub pair-ends : (s : List ℕ) → NoMore (bytes ">>" ++ s)
 unfolding isDigit dotDigit
 pair-ends s = record { digit = refl; dot = refl }
 

@@ -1,14 +1,14 @@
 -- No print is longer than 400 bytes, in any mode. Assumes nothing.
-use Prim.Native.Nat.{ℕ, _+_, _^_, _≤_, _<_}
+use Prim.Native.Nat.{ℕ, _≤_}
 use native.Mathlib.Omega.{arith}
 use mathlib.Core.Path.{_≡_, refl}
-use mathlib.Core.Bool.{Bool, true, false, _&&_}
-use mathlib.Core.List.{List, []}
+use mathlib.Core.Bool.{Bool, true, _&&_}
+use mathlib.Core.List.{List}
 use lib.ListN.{length, drop, length-append, length-take}
 use Rattle.text.specs.Pick.{opt}
 use Rattle.text.proofs.Texts.{and-left, and-right}
+use Rattle.text.proofs.Parts.{opt-most}
 use Rattle.rules.specs.Columns.{columns, between}
-use Rattle.rules.specs.Names.{nameText}
 use Rattle.rules.specs.Side.{sideText}
 use Rattle.rules.specs.Announcement.{modeText, levelText, stepText}
 use Rattle.rules.specs.Correction.{repeatsName, cancelText, correctionText, cancelOpening, errorOpening}
@@ -42,11 +42,6 @@ side-fits side h =
       previous-is = omega (arith, number-below 14 (columns 32 45 side) (omega (arith, length-take 14 (drop 31 side))));
       previous-decimals = s .1;
     }
-
-opt-most : (b : Bool) (t : List ℕ) (m : ℕ) → length t ≤ m → length (opt b t) ≤ m
-unfolding opt
-opt-most true t m h = h
-opt-most false t m h = omega arith
 
 module _ (x : Side) (h : Short x) (name : List ℕ) (l : length name ≤ 22) (network unit : ℕ) (full shows : Bool) where
   side-most : length (sideText name network unit full shows x) ≤ 183

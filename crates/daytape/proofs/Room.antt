@@ -2,7 +2,7 @@
 use Prim.Native.Nat.{ℕ, _≤_}
 use native.Mathlib.Omega.{arith}
 use mathlib.Core.Path.{_≡_, refl, sym, ap, _∙_}
-use mathlib.Core.Bool.{Bool, true, false, _&&_, not, false≢true}
+use mathlib.Core.Bool.{Bool, true, false, _&&_, not}
 use mathlib.Core.List.{List, []}
 use mathlib.Core.Option.{Option, none, some}
 use lib.Dec.{ltb, eqb}
@@ -12,12 +12,12 @@ use Rattle.text.specs.Pick.{pick}
 use Rattle.rules.specs.Columns.{column}
 use Rattle.rules.specs.Line.{isShaped, isKind, isFormed, isRanged, lineOf, nameColumns}
 use Rattle.rules.specs.Refusal.{refuse, numberOf}
-use Rattle.rules.specs.Day.{Day, Call, securityAt, listingRefusal, tradeRefusal, correctionRefusal, dateRefusal, stateRefusal, undated, printOf, refusalOf, afterLine, tapeOf, after}
+use Rattle.rules.specs.Day.{Day, listingRefusal, tradeRefusal, correctionRefusal, dateRefusal, stateRefusal, undated, printOf, refusalOf, afterLine, tapeOf, after}
 use Rattle.rules.specs.declared.Line.{Line}
 use Rattle.rules.specs.declared.Line.the-variants.{Dated, Listed, Moded, Leveled, Stepped, Traded, Cancelled, Erred, Corrected}
 use Rattle.rules.specs.declared.Refusal.{Refusal}
 use Rattle.rules.specs.declared.Refusal.the-variants.{Shape, Kind, NoDate, Form, Value, NotEntered, InUse, Name, SameName, Conditions, Unmatched, DateOrder, Room}
-use Rattle.normal.specs.Held.{Held}
+use Rattle.normal.specs.Invariant.{Invariant}
 use Rattle.normal.proofs.Views.{of-kind}
 use Rattle.daytape.specs.Claim.{ample}
 use Rattle.daytape.proofs.Most.{print-by}
@@ -60,7 +60,7 @@ chain a b c d e day name l h =
 
 -- ---- one line, on a day that can be reached
 
-module _ (day : Day) (line : List ℕ) (reached : Held day) where
+module _ (day : Day) (line : List ℕ) (reached : Invariant day) where
   -- every line in its form and within its values
   fits : isFormed line ≡ true → isRanged line ≡ true → length (printOf day (lineOf line)) ≤ 400
   unfolding lineOf isFormed isRanged

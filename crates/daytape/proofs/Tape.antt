@@ -2,11 +2,10 @@
 use Prim.Native.Nat.{ℕ, _+_, _-_, _≤_}
 use native.Mathlib.Omega.{arith}
 use mathlib.Core.Path.{_≡_, refl, sym, ap, _∙_}
-use mathlib.Core.Bool.{Bool, true, false, _&&_}
+use mathlib.Core.Bool.{Bool, true, false}
 use mathlib.Core.List.{List, [], _∷_, _++_, append-assoc}
-use mathlib.Core.Option.{Option, none, some}
 use lib.Dec.{leb}
-use lib.ListN.{length, replicate, length-replicate, length-append}
+use lib.ListN.{length, replicate, length-replicate}
 use borrow.Author.Tests.{leb-true}
 use Rattle.text.specs.Put.{put}
 use Rattle.text.proofs.Texts.{and-left}
@@ -18,12 +17,12 @@ use Rattle.engine.specs.Taken.{asked, outcomeOf, Taken}
 use Rattle.planprint.specs.Print.{printOf}
 use Rattle.planstate.specs.After.{settingsAfter, tableAfter, namesAfter}
 use Rattle.calls.specs.Held.{stopOf}
-use Rattle.calls.specs.Run.{State, Sized, Lent, callOf, Holds}
+use Rattle.calls.specs.Run.{State, Sized, Lent, Holds}
 use Rattle.calls.specs.Run.Holds.{undated}
 use Rattle.calls.proofs.Runs.{link-tape, link-sized, link-holds, link-refusal}
-use Rattle.normal.specs.Held.{Held}
+use Rattle.normal.specs.Invariant.{Invariant}
 use Rattle.normal.proofs.Days.{held-fresh, held-after}
-use Rattle.lines.specs.Feed.{Progress, started, told, carried, lineTaken, roomLeft, linesTaken}
+use Rattle.lines.specs.Feed.{Progress, told, carried, lineTaken, roomLeft, linesTaken}
 use Rattle.lines.specs.Handed.{handed, allTaken, turnOf, printAt, printsOf, toldOf}
 use Rattle.lines.proofs.Whole.{handed-on, handed-off, handed-taken, all-number, all-tape, all-told}
 use Rattle.daytape.specs.Claim.{ample, tapeOfLines, toldBy, refusalsOfLines, dayOfLines, stateOf, startOf, Feeds, DayTape}
@@ -46,7 +45,7 @@ told-stop number n (Cancel t) = refl
 told-stop number n (Correct c) = refl
 
 -- a call of the engine on a state that holds a day that can be reached
-module _ (s : State) (day : Day) (sized : Sized s) (holds : Holds s day) (reached : Held day) (c : Lent) (enough : 400 ≤ length (c .tape)) where
+module _ (s : State) (day : Day) (sized : Sized s) (holds : Holds s day) (reached : Invariant day) (c : Lent) (enough : 400 ≤ length (c .tape)) where
   abbrev q : Plan
   q = asked (s .settings) (s .table) (s .names) (c .line) (length (c .tape))
 
@@ -81,7 +80,7 @@ record LineBy (tape : ℕ) (l : List ℕ) (p : Progress) (day : Day) : Type 0 wh
   sized : Sized (stateOf (lineTaken tape l p))
   holds : Holds (stateOf (lineTaken tape l p)) (after day (ample l))
 
-line-by : (tape : ℕ) (l : List ℕ) (p : Progress) (day : Day) → Sized (stateOf p) → Holds (stateOf p) day → Held day → 400 ≤ tape - length (p .tape) → LineBy tape l p day
+line-by : (tape : ℕ) (l : List ℕ) (p : Progress) (day : Day) → Sized (stateOf p) → Holds (stateOf p) day → Invariant day → 400 ≤ tape - length (p .tape) → LineBy tape l p day
 unfolding printAt turnOf lineTaken carried
 line-by tape l p day z h k enough =
     let room = tape - length (p .tape) in
@@ -101,9 +100,9 @@ record LinesBy (tape : ℕ) (hs : List (List ℕ)) (p : Progress) (day : Day) : 
   told-are : toldOf tape hs p ≡ refusalsOfLines day (p .number) hs
   sized : Sized (stateOf (allTaken tape hs p))
   holds : Holds (stateOf (allTaken tape hs p)) (dayOfLines day hs)
-  reached : Held (dayOfLines day hs)
+  reached : Invariant (dayOfLines day hs)
 
-no-lines : (tape : ℕ) (p : Progress) (day : Day) → Sized (stateOf p) → Holds (stateOf p) day → Held day → LinesBy tape [] p day
+no-lines : (tape : ℕ) (p : Progress) (day : Day) → Sized (stateOf p) → Holds (stateOf p) day → Invariant day → LinesBy tape [] p day
 unfolding printsOf toldOf allTaken tapeOfLines refusalsOfLines dayOfLines
 no-lines tape p day z h k = record { prints-are = refl; told-are = refl; sized = z; holds = h; reached = k }
 
@@ -119,13 +118,13 @@ one-more tape l hs p day a b =
     }
 
 module _ (tape refusals : ℕ) where
-  handed-by : (ls : List (List ℕ)) (p : Progress) (day : Day) → Sized (stateOf p) → Holds (stateOf p) day → Held day → LinesBy tape (handed tape refusals ls p) p day
+  handed-by : (ls : List (List ℕ)) (p : Progress) (day : Day) → Sized (stateOf p) → Holds (stateOf p) day → Invariant day → LinesBy tape (handed tape refusals ls p) p day
   unfolding handed roomLeft
   handed-by [] p day z h k = no-lines tape p day z h k
   handed-by (l ∷ ls) p day z h k = go (roomLeft tape refusals (length (p .tape)) (length (p .refusals)) (p .number)) refl (handed-by ls (lineTaken tape l p) (after day (ample l)))
     where
       go : (b : Bool) → roomLeft tape refusals (length (p .tape)) (length (p .refusals)) (p .number) ≡ b
-          → (Sized (stateOf (lineTaken tape l p)) → Holds (stateOf (lineTaken tape l p)) (after day (ample l)) → Held (after day (ample l)) → LinesBy tape (handed tape refusals ls (lineTaken tape l p)) (lineTaken tape l p) (after day (ample l)))
+          → (Sized (stateOf (lineTaken tape l p)) → Holds (stateOf (lineTaken tape l p)) (after day (ample l)) → Invariant (after day (ample l)) → LinesBy tape (handed tape refusals ls (lineTaken tape l p)) (lineTaken tape l p) (after day (ample l)))
           → LinesBy tape (handed tape refusals (l ∷ ls) p) p day
       go true e on =
           let enough = leb-true 400 (tape - length (p .tape)) (and-left (leb 400 (tape - length (p .tape))) _ e) in
@@ -149,7 +148,7 @@ refusals-joined day n (l ∷ ls) ms =
     ap (λ (x : List ℕ). t ++ x) (refusals-joined (after day (ample l)) (n + 1) ls ms)
     ∙ (sym (append-assoc t _ _) ∙ ap (λ (k : ℕ). (t ++ refusalsOfLines (after day (ample l)) (n + 1) ls) ++ refusalsOfLines (dayOfLines (after day (ample l)) ls) k ms) e)
 
-feeds-by-rules : {s : State} {n : ℕ} {ls : List (List ℕ)} {out told : List ℕ} → Feeds s n ls out told → (day : Day) → Sized s → Holds s day → Held day → DayTape ls day n out told
+feeds-by-rules : {s : State} {n : ℕ} {ls : List (List ℕ)} {out told : List ℕ} → Feeds s n ls out told → (day : Day) → Sized s → Holds s day → Invariant day → DayTape ls day n out told
 unfolding tapeOfLines refusalsOfLines
 feeds-by-rules ended day z h k = record { tape-is = refl; refusals-are = refl }
 feeds-by-rules (fed {s} {n} {ms} {out} {told} tape refusals ls rest) day z h k =

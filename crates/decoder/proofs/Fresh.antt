@@ -1,31 +1,33 @@
 -- What may follow a print: nothing, or another print. No print goes on with a part of the one before it. Assumes nothing.
-use Prim.Native.Nat.{ℕ, zero, suc, _+_, _≤_, _<_}
+use Prim.Native.Nat.{ℕ, suc, _+_, _≤_, _<_}
 use native.Mathlib.Omega.{arith}
 use mathlib.Core.Path.{_≡_, refl, sym, ap, _∙_}
 use mathlib.Core.Bool.{Bool, true, false, _&&_, _||_, not}
 use mathlib.Core.List.{List, [], _∷_, _++_, append-assoc}
-use mathlib.Core.Logic.{_⊎_, inl, inr, ⊎-elim}
-use mathlib.Core.Option.{Option, none, some}
+use mathlib.Core.Logic.{_⊎_, ⊎-elim}
+use mathlib.Core.Option.{none, some}
 use lib.Dec.{eqb, leb}
-use lib.ListN.{length, take, length-append, length-take}
+use lib.ListN.{length, length-append, length-take}
 use borrow.Author.Tests.{eqb-true, eqb-false, ne-eqb, leb-true, lt-leb, not-true}
 use Rattle.text.specs.Bytes.{bytes}
 use Rattle.text.specs.Pick.{pick, opt, all, same, among, member}
-use Rattle.text.specs.Reading.{Read, found, before, heads, isDigit, span, starts, past, dotDigit}
+use Rattle.text.specs.Reading.{before, heads, isDigit, starts, past, dotDigit}
 use Rattle.text.proofs.Texts.{and-left, and-right, same-true}
+use Rattle.text.proofs.Booleans.{neither, and-both}
+use Rattle.text.proofs.Parts.{span-short}
 use Rattle.rules.specs.Tape.{isLetter, isUpper, isRaised}
-use Rattle.rules.specs.Columns.{word, notBlank, isBlank}
+use Rattle.rules.specs.Columns.{word, notBlank}
 use Rattle.rules.specs.Names.{rootField, suffixField, temporaryField, appendageField, texts, partText, nameText, listedSuffixes, isReserved, isSuffix, isTemporary, isAppendage, lawfulField, lawfulName}
 use Rattle.rules.specs.Conditions.{afterName}
 use Rattle.rules.specs.Side.{headText, tailText, sideText}
 use Rattle.rules.specs.declared.Letters.{Letters}
 use Rattle.rules.specs.declared.Side.{Side}
-use Rattle.volumes.specs.Reading.{hundreds, tens, shares, markAt}
+use Rattle.volumes.specs.Reading.{markAt}
 use Rattle.conditions.proofs.TailBack.{Ends}
 use Rattle.trade.proofs.SideBack.{side-lower}
 use Rattle.named.specs.Plain.{NamePlain}
-use Rattle.named.proofs.Root.{false-true, both, either, root-text}
-use Rattle.named.proofs.Parts.{each, member-each, classEnds, suffix-case, field-case}
+use Rattle.named.proofs.Root.{false-true, either, root-text}
+use Rattle.named.proofs.Parts.{each, member-each, suffix-case, field-case}
 
 pub record Fresh (s : List ℕ) : Type 0 where
   pub ends : Ends s
@@ -50,10 +52,6 @@ fresh-pair s = record {
 pub fresh-was : (s : List ℕ) → Ends (bytes "WAS." ++ s)
 unfolding starts isDigit dotDigit markAt pick
 fresh-was s = record { digit = refl; cash = refl; average = refl; stopped = refl; seller = refl; rule = refl; previous = refl; dot = refl; mark = refl }
-
-or-false : (a b : Bool) → (a || b) ≡ false → (a ≡ false) × (b ≡ false)
-or-false true b h = absurd (false-true (sym h))
-or-false false b h = (refl, h)
 
 -- ---- what follows a root: no letter, and no letter dot with an L
 
@@ -145,9 +143,9 @@ lower-mild : (s : List ℕ) → heads isUpper s ≡ false → mild s ≡ true
 unfolding mild isUpper among
 lower-mild [] h = refl
 lower-mild (c ∷ s) h =
-    let l = or-false (isLetter c) _ h in
-    let a = or-false (eqb c 38) _ (l .1) in
-    let d = or-false (eqb c 46) _ (a .1) in
+    let l = neither (isLetter c) _ h in
+    let a = neither (eqb c 38) _ (l .1) in
+    let d = neither (eqb c 46) _ (a .1) in
     rw (l .0, ne-eqb 46 c (λ e. eqb-false c 46 (d .0) (sym e)))
 
 -- ---- a root, then what is mild
@@ -174,7 +172,7 @@ starts-front : (w x s : List ℕ) → starts (w ++ x) s ≡ true → starts w s 
 unfolding starts
 starts-front [] x s h = refl
 starts-front (a ∷ w) x [] h = h
-starts-front (a ∷ w) x (c ∷ s) h = both (and-left (eqb a c) (starts (w ++ x) s) h) (starts-front w x s (and-right (eqb a c) (starts (w ++ x) s) h))
+starts-front (a ∷ w) x (c ∷ s) h = and-both (and-left (eqb a c) (starts (w ++ x) s) h) (starts-front w x s (and-right (eqb a c) (starts (w ++ x) s) h))
 
 refute : (b : Bool) → (b ≡ true → ⊥) → b ≡ false
 refute true h = absurd (h refl)
@@ -274,15 +272,6 @@ fresh-root c r u root m =
 fresh-text : (r u : List ℕ) → Root r → mild u ≡ true → Fresh (r ++ u)
 fresh-text [] u root m = absurd (false-true (root .first))
 fresh-text (c ∷ r) u root m = fresh-root c r u root m
-
-span-short : (p : ℕ → Bool) (s : List ℕ) → length ((span p s) .got) ≤ length s
-unfolding span pick
-span-short p [] = omega arith
-span-short p (c ∷ s) = go (p c) (span-short p s)
-  where
-    go : (b : Bool) → length ((span p s) .got) ≤ length s → length ((pick b (before c (span p s)) (found [] (c ∷ s))) .got) ≤ suc (length s)
-    go true h = omega arith
-    go false h = omega arith
 
 root-short : (n : List ℕ) → length (word (rootField n)) ≤ 6
 unfolding word

@@ -3,31 +3,24 @@ use Prim.Native.Nat.{ℕ, zero, suc, _+_, _-_, _≤_, _<_}
 use native.Mathlib.Nat.{le-of-suc-le-suc, not-suc-le-zero}
 use native.Mathlib.Omega.{arith}
 use mathlib.Core.Path.{_≡_, refl, sym, ap, _∙_}
-use mathlib.Core.Bool.{Bool, true, false, _&&_, _||_, not}
-use mathlib.Core.List.{List, [], _∷_, _++_}
-use mathlib.Core.Option.{Option, none, some}
-use lib.Dec.{eqb}
-use lib.ListN.{length, getD, replicate, take, drop, length-append}
-use borrow.Author.Tests.{eqb-true, eq-eqb, not-true}
+use mathlib.Core.Bool.{Bool, true, false, _&&_}
+use mathlib.Core.List.{List, [], _∷_}
+use mathlib.Core.Option.{some}
+use lib.ListN.{length, getD, length-append}
+use borrow.Author.Tests.{not-true}
 use Rattle.text.specs.Pick.{pick, opt, same, among}
 use Rattle.text.specs.Reading.{heads, span}
-use Rattle.text.proofs.Texts.{and-left, and-right, same-true}
+use Rattle.text.proofs.Texts.{same-true, same-refl}
+use Rattle.text.proofs.Booleans.{neither, or-first, or-second}
 use Rattle.rules.specs.Tape.{isLetter, isRaised}
 use Rattle.rules.specs.Columns.{isBlank, word}
 use Rattle.rules.specs.Names.{partText, nameText, hasTemporary, sameName, temporaryField}
 use Rattle.rules.specs.Day.{noName}
 use Rattle.symbol.proofs.Text.{name-sum}
-use Rattle.named.specs.Plain.{NamePlain}
 use Rattle.named.proofs.Root.{false-true}
-use Rattle.named.proofs.Back.{name-head}
 use Rattle.decoder.specs.Decode.{Names, isNameOf, numberFrom, nameIn, showsSuffix}
 
 -- ---- the same text
-
-same-refl : (t : List ℕ) → same t t ≡ true
-unfolding same
-same-refl [] = refl
-same-refl (c ∷ t) = rw (eq-eqb c c refl) (same-refl t)
 
 -- texts that one test tells apart
 apart : (p : ℕ → Bool) (s t : List ℕ) → heads p s ≡ true → heads p t ≡ false → same s t ≡ false
@@ -39,32 +32,21 @@ apart p s t h k = go (same s t) refl
 
 -- ---- a name among those listed
 
-or-true-left : (a b : Bool) → a ≡ true → (a || b) ≡ true
-or-true-left a b h = rw h
-
-or-true-right : (a b : Bool) → b ≡ true → (a || b) ≡ true
-or-true-right true b h = refl
-or-true-right false b h = h
-
 own-name : (b : Bool) (name : List ℕ) → isNameOf (nameText b name) name ≡ true
 unfolding isNameOf
-own-name true name = or-true-left _ _ (same-refl (nameText true name))
-own-name false name = or-true-right (same (nameText false name) (nameText true name)) _ (same-refl (nameText false name))
-
-or-false : (a b : Bool) → (a || b) ≡ false → (a ≡ false) × (b ≡ false)
-or-false true b h = absurd (false-true (sym h))
-or-false false b h = (refl, h)
+own-name true name = or-first _ _ (same-refl (nameText true name))
+own-name false name = or-second (same (nameText false name) (nameText true name)) _ (same-refl (nameText false name))
 
 other-name : (b : Bool) (m n : List ℕ) → sameName m n ≡ false → isNameOf (nameText b m) n ≡ false
 unfolding isNameOf sameName
 other-name true m n h =
-    let p = or-false (same (nameText true m) (nameText true n)) _ h in
-    let q = or-false (same (nameText true m) (nameText false n)) _ (p .1) in
+    let p = neither (same (nameText true m) (nameText true n)) _ h in
+    let q = neither (same (nameText true m) (nameText false n)) _ (p .1) in
     rw (p .0, q .0)
 other-name false m n h =
-    let p = or-false (same (nameText true m) (nameText true n)) _ h in
-    let q = or-false (same (nameText true m) (nameText false n)) _ (p .1) in
-    let r = or-false (same (nameText false m) (nameText true n)) _ (q .1) in
+    let p = neither (same (nameText true m) (nameText true n)) _ h in
+    let q = neither (same (nameText true m) (nameText false n)) _ (p .1) in
+    let r = neither (same (nameText false m) (nameText true n)) _ (q .1) in
     rw (r .0, r .1)
 
 -- no name stands at a vacant place

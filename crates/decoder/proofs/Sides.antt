@@ -7,19 +7,19 @@ use native.Mathlib.Nat.{add-sub-of-le}
 use mathlib.Core.Path.{_≡_, refl, sym, ap, _∙_, subst}
 use mathlib.Core.Bool.{Bool, true, false, _&&_, _||_, not}
 use mathlib.Core.List.{List, [], _∷_, _++_}
-use mathlib.Core.Option.{Option, none, some}
-use lib.Dec.{leb, ltb, eqb}
-use borrow.Author.Tests.{leb-true, leb-false, eqb-true, eqb-false, le-leb, lt-leb, not-true, not-false}
+use mathlib.Core.Option.{none, some}
+use lib.Dec.{leb, eqb}
+use borrow.Author.Tests.{leb-false, eqb-true, eqb-false, le-leb, not-false}
 use Rattle.text.specs.Pick.{pick, same}
+use Rattle.text.proofs.Booleans.{or-left, or-right}
 use Rattle.rules.specs.Columns.{between}
 use Rattle.rules.specs.Price.{wholePart, fraction, units}
 use Rattle.rules.specs.Volume.{volumeText, fullVolume}
 use Rattle.rules.specs.Trade as trade
-use Rattle.rules.specs.Trade.{six, endsInZero, dollars, fullAt, fullPrice, showsVolume, isNormal, tradeFull, tradeShows}
-use Rattle.rules.specs.Shown.{Conditions, shownLetters, conditionsOf}
+use Rattle.rules.specs.Trade.{endsInZero, dollars, fullAt, fullPrice, isNormal, tradeFull}
+use Rattle.rules.specs.Shown.{shownLetters, conditionsOf}
 use Rattle.rules.specs.declared.Mode.{Mode}
 use Rattle.rules.specs.declared.Price.{Price}
-use Rattle.rules.specs.declared.Letters.{Letters}
 use Rattle.rules.specs.declared.Side.{Side}
 use Rattle.rules.specs.declared.Settings.{Settings}
 use Rattle.rules.specs.declared.Security.{Security}
@@ -27,8 +27,8 @@ use Rattle.volumes.specs.Reading.{Mark, hundreds, tens, shares, markText, Shown
 use Rattle.volumes.proofs.VolumeBack.{volume-shown, shares-back}
 use Rattle.prices.specs.Reading.{shownPrice}
 use Rattle.prices.proofs.PriceBack.{full-price}
-use Rattle.conditions.specs.Reading.{Tail, if-there, tailOf}
-use Rattle.named.specs.Cut.{Sold, plain, opened, sold, last, After, after, soldOf, afterOf, oneSold}
+use Rattle.conditions.specs.Reading.{if-there, tailOf}
+use Rattle.named.specs.Cut.{plain, opened, sold, last, soldOf, afterOf, oneSold}
 use Rattle.named.proofs.Root.{false-true}
 use Rattle.decoder.specs.Decode.{given, valueIn, isOpened, isSold, isLast, conditionsBy, priceBy, volumeBy}
 use Rattle.decoder.specs.Lawful.{LawfulSide}
@@ -88,14 +88,6 @@ shown-short p = refl
 record Short (s : Security) (w : ℕ) : Type 0 where
   same-tens : w / 10 ≡ dollars (s .printed) / 10
   some-digit : w % 10 ≡ 0 → ⊥
-
-or-left : (a b : Bool) → (a || b) ≡ false → a ≡ false
-or-left true b h = h
-or-left false b h = refl
-
-or-right : (a b : Bool) → (a || b) ≡ false → b ≡ false
-or-right true b h = absurd (false-true (sym h))
-or-right false b h = h
 
 short-is : (s : Security) (market : ℕ) (x : Side) → fullPrice s market x ≡ false → Short s (wholePart (x .price))
 unfolding fullPrice fullAt trade.tens endsInZero

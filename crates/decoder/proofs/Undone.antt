@@ -1,25 +1,22 @@
 -- The decoder undoes every print, before whatever may follow it. Assumes nothing.
-use Prim.Native.Nat.{ℕ, zero, suc, _+_, _-_, _≤_, _<_}
-use native.Mathlib.Omega.{arith}
+use Prim.Native.Nat.{ℕ, _+_, _-_, _≤_, _<_}
 use mathlib.Core.Path.{_≡_, refl, sym, ap, _∙_}
 use mathlib.Core.Bool.{Bool, true, false, _&&_, _||_, not}
-use mathlib.Core.List.{List, [], _∷_, _++_, append-assoc, append-nil}
-use mathlib.Core.Option.{Option, none, some}
-use lib.Dec.{eqb, leb}
+use mathlib.Core.List.{List, [], _∷_, _++_, append-assoc}
+use mathlib.Core.Option.{none, some}
 use lib.ListN.{length, getD}
 use Rattle.text.specs.Bytes.{bytes}
-use Rattle.text.specs.Pick.{pick, opt, all, same}
-use Rattle.text.specs.Reading.{Read, found, heads, starts, past}
+use Rattle.text.specs.Pick.{pick, opt}
+use Rattle.text.specs.Reading.{found, heads, starts, past}
 use Rattle.text.proofs.Reading.{past-append}
+use Rattle.text.proofs.Parts.{heads-append, all-opt, all-append}
 use Rattle.rules.specs.Tape.{isLetter, isUpper}
-use Rattle.rules.specs.Columns.{between}
 use Rattle.rules.specs.Names.{nameText, hasTemporary}
 use Rattle.rules.specs.Conditions.{afterName}
-use Rattle.rules.specs.Price.{wholePart, units, priceText}
-use Rattle.rules.specs.Volume.{volumeText}
-use Rattle.rules.specs.Side.{headText, tailText, sideText}
-use Rattle.rules.specs.Trade.{dollars, isNormal, tradeFull, tradeShows, showsVolume}
-use Rattle.rules.specs.Announcement.{modeText, levelText, minimumText, stepText}
+use Rattle.rules.specs.Price.{units}
+use Rattle.rules.specs.Side.{headText, sideText}
+use Rattle.rules.specs.Trade.{isNormal}
+use Rattle.rules.specs.Announcement.{modeText, levelText, minimumText}
 use Rattle.rules.specs.Correction.{repeatsName, endPair, correctionText, cancelText, cancelOpening, errorOpening}
 use Rattle.rules.specs.Day.{noName}
 use Rattle.rules.specs.Shown.{conditionsOf, Part, inFull, bare, partOf, Fact, announced, traded, cancelled, erred, corrected}
@@ -27,27 +24,24 @@ use Rattle.rules.specs.declared.Mode.{Mode}
 use Rattle.rules.specs.declared.Mode.the-variants.{Normal, Dvd, Rpo, Mpv}
 use Rattle.rules.specs.declared.Letters.{Letters}
 use Rattle.rules.specs.declared.Side.{Side}
-use Rattle.rules.specs.declared.Settings.{Settings}
-use Rattle.rules.specs.declared.Security.{Security}
-use Rattle.volumes.specs.Reading.{Shown, unsaid, sharesOf, shownOf}
+use Rattle.volumes.specs.Reading.{unsaid, sharesOf, shownOf}
 use Rattle.volumes.proofs.VolumeBack.{shares-back}
 use Rattle.prices.specs.Reading.{shownPrice}
 use Rattle.prices.proofs.PriceBack.{full-price}
-use Rattle.conditions.specs.Reading.{if-there, tailOf}
+use Rattle.conditions.specs.Reading.{tailOf}
 use Rattle.conditions.proofs.TailBack.{Ends}
-use Rattle.trade.specs.Reading.{SideRead, readSide, sideShown}
+use Rattle.trade.specs.Reading.{readSide, sideShown}
 use Rattle.trade.proofs.SideBack.{SideOk, side-back}
-use Rattle.announcement.specs.Reading.{Told, normal, dvd, rpo, minimum, level, readAnnouncement}
+use Rattle.announcement.specs.Reading.{readAnnouncement}
 use Rattle.announcement.proofs.Back.{told, mode-back, minimum-back, level-back}
 use Rattle.named.specs.Plain.{NamePlain}
-use Rattle.named.specs.Cut.{plain, opened, sold, last, Divided, After, after, soldOf, afterOf, divide}
+use Rattle.named.specs.Cut.{plain, opened, sold, last, After, after, soldOf, afterOf, divide}
 use Rattle.named.proofs.Root.{false-true}
-use Rattle.named.proofs.Parts.{all-append}
 use Rattle.named.proofs.Back.{conditions-upper, name-upper, name-head, name-back}
 use Rattle.decoder.specs.Carried.{Carried}
-use Rattle.decoder.specs.Decode.{Names, isNameOf, numberFrom, nameIn, showsSuffix, given, conditionsBy, priceBy, volumeBy, partBy, Found, there, toldText, announcementBy, Headed, headedBy, headOf, tradeBy, ended, cancelBy, afterBy, correctionBy, decodeCorrection, decodeCancel, decodeTrade, decode}
+use Rattle.decoder.specs.Decode.{Names, isNameOf, nameIn, priceBy, volumeBy, partBy, there, toldText, announcementBy, headedBy, headOf, tradeBy, ended, cancelBy, afterBy, correctionBy, decodeCorrection, decodeCancel, decodeTrade, decode}
 use Rattle.decoder.specs.Lawful.{LawfulSide}
-use Rattle.decoder.proofs.Sides.{conditions-by, price-by, volume-by, given-is}
+use Rattle.decoder.proofs.Sides.{conditions-by, given-is}
 use Rattle.decoder.proofs.Lookup.{number-back, suffix-back}
 use Rattle.decoder.proofs.Fresh.{Fresh, fresh-was, letter-unlike}
 
@@ -65,11 +59,6 @@ unfolding headOf headText headedBy
 head-back names network i k b x h =
     rw (name-back network (nameIn names i) (k .is-plain) b (x .letters) (h .sold), number-back names i b (k .low) (k .high) (k .alone b))
 
-all-opt : (p : ℕ → Bool) (b : Bool) (t : List ℕ) → all p t ≡ true → all p (opt b t) ≡ true
-unfolding opt all
-all-opt p true t h = h
-all-opt p false t h = refl
-
 -- with its name or, as the correcting trade may be, without
 side-ok : (network : ℕ) (n : List ℕ) → NamePlain network n → (a b : Bool) (x : Side) → LawfulSide x → SideOk (opt a (nameText b n)) x
 unfolding headText
@@ -83,10 +72,6 @@ side-ok network n k a b x h = record {
 
 -- ---- a trade
 
-heads-front : (p : ℕ → Bool) (t u : List ℕ) → heads p t ≡ true → heads p (t ++ u) ≡ true
-heads-front p [] u h = absurd (false-true h)
-heads-front p (c ∷ t) u h = h
-
 decode-trade : (names : Names) (d : Carried) (t : List ℕ) → heads isLetter t ≡ true → decode names d t ≡ decodeTrade names d t
 unfolding decode starts pick isLetter
 decode-trade names d [] h = absurd (false-true h)
@@ -95,7 +80,7 @@ decode-trade names d (c ∷ t) h = rw (letter-unlike 60 c h refl)
 side-head : (name : List ℕ) (network unit : ℕ) (full shows : Bool) (x : Side) (s : List ℕ) → heads isLetter name ≡ true → heads isLetter (sideText name network unit full shows x ++ s) ≡ true
 unfolding sideText headText
 side-head name network unit full shows x s h =
-    simp append-assoc (heads-front isLetter name _ h)
+    simp append-assoc (heads-append isLetter name _ h)
 
 -- what the decoder finds of a trade's print
 pub trade-undone : (names : Names) (network i : ℕ) → Known names network i → (d : Carried) (b : Bool) (unit : ℕ) (full shows : Bool) (x : Side) (s : List ℕ) → LawfulSide x → Fresh s
@@ -200,7 +185,7 @@ unfolding headText opt afterBy
 correcting-after network n k y h = go (repeatsName (y .letters)) refl
   where
     go : (b : Bool) → repeatsName (y .letters) ≡ b → afterBy (opt b (nameText false n) ++ afterName (y .letters)) ≡ afterOf (y .letters)
-    go true e = after-run (nameText false n ++ afterName (y .letters)) (afterOf (y .letters)) (heads-front isLetter (nameText false n) _ (name-head network n k false)) (ap (λ v. v .conditions) (name-back network n k false (y .letters) (h .sold)))
+    go true e = after-run (nameText false n ++ afterName (y .letters)) (afterOf (y .letters)) (heads-append isLetter (nameText false n) _ (name-head network n k false)) (ap (λ v. v .conditions) (name-back network n k false (y .letters) (h .sold)))
     go false e = let u = unrepeated (y .letters) e in ap afterBy (u .0) ∙ sym (u .1)
 
 module _ (names : Names) (network i : ℕ) (k : Known names network i) (mode : Mode) (unit : ℕ) (full shows : Bool) (x y : Side) (s : List ℕ) (h : LawfulSide x) (l : LawfulSide y) (f : Fresh s) where
@@ -252,14 +237,14 @@ minimum-starts : (n : ℕ) (s : List ℕ) → starts (bytes "<<<") (minimumText 
 unfolding minimumText starts
 minimum-starts n s = refl
 
-mode-starts : (m : Mode) (n : ℕ) (s : List ℕ) → starts (bytes "<<<") (modeText m n ++ s) ≡ true
+pub mode-starts : (m : Mode) (n : ℕ) (s : List ℕ) → starts (bytes "<<<") (modeText m n ++ s) ≡ true
 unfolding modeText starts
 mode-starts Normal n s = refl
 mode-starts Dvd n s = refl
 mode-starts Rpo n s = refl
 mode-starts Mpv n s = minimum-starts n s
 
-level-starts : (n : ℕ) (s : List ℕ) → starts (bytes "<<<") (levelText n ++ s) ≡ true
+pub level-starts : (n : ℕ) (s : List ℕ) → starts (bytes "<<<") (levelText n ++ s) ≡ true
 unfolding levelText starts
 level-starts n s = refl
 

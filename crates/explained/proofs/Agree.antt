@@ -5,19 +5,16 @@ use mathlib.Core.Path.{_≡_, refl, sym, ap, _∙_}
 use mathlib.Core.Bool.{Bool, true, false, _&&_, not}
 use mathlib.Core.List.{List}
 use mathlib.Core.Option.{Option, none, some}
-use lib.Dec.{eqb}
 use lib.ListN.{length}
-use borrow.Author.Tests.{not-true, not-false}
 use Rattle.text.specs.Pick.{pick}
-use Rattle.text.proofs.Tests.{pick-no}
 use Rattle.rules.specs.Columns.{column}
-use Rattle.rules.specs.Line.{isShaped, isKind, isFormed, isRanged, lineOf, ofKind, nameColumns}
-use Rattle.rules.specs.Refusal.{refuse}
-use Rattle.rules.specs.Day.{Day, Call, securityAt, undated, stateRefusal, refusalOf}
+use Rattle.rules.specs.Line.{isShaped, isKind, isFormed, isRanged, lineOf, ofKind}
+use Rattle.rules.specs.Day.{Day, Call, securityAt, refusalOf}
 use Rattle.rules.specs.declared.Line.{Line}
 use Rattle.rules.specs.declared.Refusal.{Refusal}
 use Rattle.rules.specs.declared.Refusal.the-variants.{Shape, Kind, Form, Value}
 use Rattle.rules.specs.declared.Settings.{Settings}
+use Rattle.rules.proofs.Days.{passed}
 use Rattle.dayline.specs.declared.Reading as dayline
 use Rattle.dayline.specs.declared.Reading.the-variants as reading
 use Rattle.dayline.specs.Fields.{readingOf}
@@ -33,7 +30,6 @@ use Rattle.explained.specs.Explained.{securityOf, securityIn, kindIn, fa
 use Rattle.explained.specs.Read.{readSecurity, readFate, fateIf, SoundReading}
 use Rattle.explained.specs.declared.Fate.{Fate}
 use Rattle.explained.specs.declared.Fate.the-variants.{Refused}
-use Rattle.explained.specs.declared.Explanation.{Explanation}
 use Rattle.explained.proofs.Fates.{number-small}
 
 -- ---- a line as it is read
@@ -72,11 +68,6 @@ unfolding explainedBy
 explained-small day c = rw (← security-read (c .line)) (reading-small (readingOf (c .line)) (sound-read (c .line)))
 
 -- ---- a line that nothing stops
-
-passed : (b : Bool) (r : Refusal) (o : Option Refusal) → refuse b r o ≡ none → (b ≡ false) × (o ≡ none)
-unfolding refuse pick
-passed true r o h = let z : _≡_ {A = ℕ} 0 1 = cc in absurd (omega (arith, z))
-passed false r o h = (refl, h)
 
 taken : (day : Day) (line : List ℕ) (room : ℕ) → refusalOf day line room ≡ none → readingOf line ≡ reading.Taken (lineOf line)
 unfolding refusalOf readingOf pick

@@ -9,12 +9,12 @@ use lib.ListN.{length, length-append}
 use Rattle.text.specs.Bytes.{bytes}
 use Rattle.text.specs.Decimal.{decimal}
 use Rattle.text.proofs.Decimal.{length-decimal}
+use Rattle.text.proofs.Parts.{pick-most}
 use Rattle.rules.specs.Shown.{Conditions, Part, inFull, bare, Fact, announced, traded, cancelled, erred, corrected}
 use Rattle.facts.specs.Entry.{factIn}
 use Rattle.facts.specs.Short.{ShortConditions, ShortPart, ShortVolume, ShortFact, ShortShown}
 use Rattle.facts.specs.declared.Entry.{Entry}
 use Rattle.facts.specs.declared.Entry.the-variants.{Silent, Announced, Traded, Cancelled, Erred, Corrected}
-use Rattle.factvalue.proofs.Short.{either-short}
 use Rattle.factside.specs.Sides.{partText, volumeText}
 use Rattle.factside.proofs.Short.{conditions-short, priced-short, full-short}
 use Rattle.factline.specs.Lines.{flagText, tradeHead, tradeTail, tradeText, sidedText, amendedText, correctionText, announcedText, factLine, lineOf}
@@ -36,7 +36,7 @@ security-short i h = length-decimal 2 i (omega arith)
 
 flag-short : (b : Bool) → length (flagText b) ≤ 1
 unfolding flagText
-flag-short b = either-short b _ _ 1 (omega arith) (omega arith)
+flag-short b = pick-most b _ _ 1 (omega arith) (omega arith)
 
 head-short : (i : ℕ) (b : Bool) → i ≤ 512 → length (tradeHead i b) ≤ 15
 unfolding tradeHead

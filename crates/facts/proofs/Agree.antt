@@ -1,37 +1,33 @@
 -- The fact of a line's plan is the one that the rules show. Assumes nothing.
-use Prim.Native.Nat.{ℕ, _+_, _-_, _^_, _≤_, _<_}
+use Prim.Native.Nat.{ℕ, _+_, _-_, _≤_}
 use native.Mathlib.Omega.{arith}
 use mathlib.Core.Path.{_≡_, refl, sym, ap, _∙_}
 use mathlib.Core.Bool.{Bool, true, false, _&&_, _||_, not}
 use mathlib.Core.List.{List, [], _∷_}
 use mathlib.Core.Option.{Option, none, some}
-use lib.Dec.{ltb, eqb}
 use lib.ListN.{length}
-use borrow.Author.Tests.{eqb-false, not-true, not-false}
+use borrow.Author.Tests.{not-false}
 use Rattle.text.specs.Pick.{pick, same}
 use Rattle.rules.specs.Names.{hasTemporary}
 use Rattle.rules.specs.Volume.{volumeText}
 use Rattle.rules.specs.Price.{units}
 use Rattle.rules.specs.Columns.{column}
-use Rattle.rules.specs.Line.{isShaped, isKind, isFormed, isRanged, lineOf, ofKind, nameColumns}
+use Rattle.rules.specs.Line.{isRanged, lineOf, ofKind, nameColumns}
 use Rattle.rules.specs.Trade.{isNormal, printsTrade, tradeShows}
 use Rattle.rules.specs.Announcement.{modeText, levelText, stepText}
 use Rattle.rules.specs.Correction.{printsCorrection}
-use Rattle.rules.specs.Conditions.{onNetwork}
 use Rattle.rules.specs.Day as rules
-use Rattle.rules.specs.Day.{Day, Call, securityAt, nameAt, isEntered, showsTemporary, refusalOf, tapeOf}
-use Rattle.rules.specs.Shown.{Fact, traded, cancelled, erred, corrected, conditionsOf, partOf, shownVolume, tradeFact, announcedIf, factOf, shownBy}
+use Rattle.rules.specs.Day.{Day, securityAt, nameAt, showsTemporary, tapeOf}
+use Rattle.rules.specs.Shown.{Fact, traded, corrected, conditionsOf, partOf, shownVolume, tradeFact, announcedIf, factOf, shownBy}
 use Rattle.rules.specs.declared.Listing.{Listing}
 use Rattle.rules.specs.declared.Trade.{Trade}
 use Rattle.rules.specs.declared.Correction.{Correction}
 use Rattle.rules.specs.declared.Line.{Line}
 use Rattle.rules.specs.declared.Line.the-variants.{Dated, Listed, Moded, Leveled, Stepped, Traded, Cancelled, Erred, Corrected}
 use Rattle.rules.specs.declared.Refusal.{Refusal}
-use Rattle.rules.specs.declared.Refusal.the-variants.{Room}
 use Rattle.rules.specs.declared.Settings.{Settings}
 use Rattle.rules.specs.declared.Side.{Side}
 use Rattle.rules.specs.declared.Security.{Security}
-use Rattle.prices.specs.Sound.{Sound}
 use Rattle.prices.proofs.Texts.{units-small}
 use Rattle.table.specs.Rows.{row, nameOf, dayOf}
 use Rattle.table.proofs.Held.{held-security, held-name}
@@ -40,27 +36,16 @@ use Rattle.planner.specs.declared.Plan.the-variants.{Stop, Open, Enter, Change,
 use Rattle.planner.specs.Plan as planner
 use Rattle.planner.specs.Plan.{datePlan, listingPlan, unlessStopped, printPlan, tradePlan, cancelOf, cancelPlan, correctionOf, correctionPlan, linePlan, readPlan, planOf, SoundLine}
 use Rattle.planner.proofs.Ranged.{sound-line}
-use Rattle.planprint.specs.Print.{printedName, textOf, fittedOf, printOf}
+use Rattle.planprint.specs.Print.{fittedOf, printOf}
+use Rattle.planprint.proofs.Sound.{has-unit}
 use Rattle.engine.specs.Taken.{asked}
 use Rattle.calls.specs.Held.{stopOf}
-use Rattle.calls.proofs.Agree.{by-rules}
+use Rattle.calls.proofs.Agree.{by-rules, unless}
 use Rattle.factside.specs.Sound.{SoundSide}
-use Rattle.facts.specs.Entry.{factIn, showsShares, volumeOf, planFact, SoundTrade, SoundCancel, SoundCorrection, SoundFact}
+use Rattle.facts.specs.Entry.{factIn, showsShares, volumeOf, planFact, SoundTrade, SoundCorrection, SoundFact}
 use Rattle.facts.specs.Short.{ShortConditions, ShortPart, ShortVolume, ShortFact, ShortShown}
 use Rattle.facts.specs.declared.Entry.{Entry}
 use Rattle.facts.proofs.Owed.{SmallTrade, SmallCorrection, SmallLine, small-line}
-
--- where nothing stops
-unless : Option Refusal → Type 0 → Type 0
-unless (some r) A = Unit {0}
-unless none A = A
-
-has-unit : (s : Security) → not (isEntered s) ≡ false → 1 ≤ s .unit
-unfolding isEntered
-has-unit s h = some-of (s .unit) (eqb-false (s .unit) 0 (not-true (eqb (s .unit) 0) (not-false (not (eqb (s .unit) 0)) h)))
-  where
-    some-of : (n : ℕ) → (n ≡ 0 → ⊥) → 1 ≤ n
-    some-of n z = omega arith
 
 -- ---- facts by what the day holds of the security
 

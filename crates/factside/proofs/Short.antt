@@ -1,21 +1,15 @@
 -- How long a side is that is shown in full: at most 81 bytes, its conditions at most 45. Assumes nothing.
 use Prim.Native.Nat.{ℕ, _^_, _≤_, _<_}
 use native.Mathlib.Omega.{arith}
-use mathlib.Core.Bool.{Bool, true, false}
 use mathlib.Core.List.{List, [], _∷_}
 use lib.ListN.{length, length-append}
 use Rattle.text.specs.Bytes.{bytes}
-use Rattle.text.specs.Pick.{opt}
 use Rattle.text.proofs.Decimal.{length-decimal}
+use Rattle.text.proofs.Parts.{opt-short}
 use Rattle.rules.specs.Shown.{Conditions}
 use Rattle.rules.specs.declared.Letters.{Letters}
 use Rattle.factvalue.proofs.Short.{number-short, value-short, value-or-none-short}
 use Rattle.factside.specs.Sides.{sequenceLetters, settlementLetters, otherLetters, lettersText, orNone, setAndDays, conditionsText, pricedText, fullText}
-
-opt-short : (b : Bool) (t : List ℕ) → length (opt b t) ≤ length t
-unfolding opt
-opt-short true t = omega arith
-opt-short false t = omega arith
 
 -- ---- conditions
 

@@ -1,34 +1,27 @@
 -- How long a number below 1,000 and a price below 1,000,000 dollars are: at most 3 and 15 bytes. Assumes nothing.
 use Prim.Native.Nat.{ℕ, zero, suc, _/_, _%_, _^_, _≤_, _<_}
 use native.Mathlib.Omega.{arith}
-use mathlib.Core.Bool.{Bool, true, false}
-use mathlib.Core.List.{List, []}
+use mathlib.Core.List.{[]}
 use lib.Dec.{eqb}
 use lib.ListN.{length, length-append}
 use Rattle.text.specs.Bytes.{bytes}
-use Rattle.text.specs.Pick.{pick}
 use Rattle.text.specs.Decimal.{decimal}
 use Rattle.text.proofs.Decimal.{length-places, length-decimal}
+use Rattle.text.proofs.Parts.{pick-most}
 use Rattle.factvalue.specs.Values.{numberText, trimmed, pointText, valueText, valueOrNone}
-
--- the longer of two texts
-pub either-short : (b : Bool) (t u : List ℕ) (m : ℕ) → length t ≤ m → length u ≤ m → length (pick b t u) ≤ m
-unfolding pick
-either-short true t u m h k = h
-either-short false t u m h k = k
 
 pub number-short : (n : ℕ) → n < 10 ^ 3 → length (numberText n) ≤ 3
 unfolding numberText
-number-short n h = either-short (eqb n 0) (bytes "-") (decimal n) 3 (omega arith) (length-decimal 2 n h)
+number-short n h = pick-most (eqb n 0) (bytes "-") (decimal n) 3 (omega arith) (length-decimal 2 n h)
 
 trimmed-short : (k f : ℕ) → length (trimmed k f) ≤ k
 unfolding trimmed
 trimmed-short zero f = omega arith
-trimmed-short (suc k) f = either-short (eqb (f % 10) 0) _ _ (suc k) (omega (arith, trimmed-short k (f / 10))) (omega (arith, length-places (suc k) f))
+trimmed-short (suc k) f = pick-most (eqb (f % 10) 0) _ _ (suc k) (omega (arith, trimmed-short k (f / 10))) (omega (arith, length-places (suc k) f))
 
 point-short : (f : ℕ) → length (pointText f) ≤ 9
 unfolding pointText
-point-short f = either-short (eqb f 0) [] _ 9 (omega arith) (omega (arith, length-append (bytes ".") (trimmed 8 f), trimmed-short 8 f))
+point-short f = pick-most (eqb f 0) [] _ 9 (omega arith) (omega (arith, length-append (bytes ".") (trimmed 8 f), trimmed-short 8 f))
 
 pub value-short : (u : ℕ) → u < 10 ^ 14 → length (valueText u) ≤ 15
 unfolding valueText
@@ -38,4 +31,4 @@ value-short u h =
 
 pub value-or-none-short : (u : ℕ) → u < 10 ^ 14 → length (valueOrNone u) ≤ 15
 unfolding valueOrNone
-value-or-none-short u h = either-short (eqb u 0) (bytes "-") _ 15 (omega arith) (value-short u h)
+value-or-none-short u h = pick-most (eqb u 0) (bytes "-") _ 15 (omega arith) (value-short u h)

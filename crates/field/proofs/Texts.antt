@@ -1,29 +1,22 @@
 -- Laws of texts read from the left: what is blank, what passes a test, a field's word. Assumes nothing.
-use Prim.Native.Nat.{ℕ, zero, suc, _+_, _-_, _≤_, _<_}
-use native.Mathlib.Nat.{le-refl}
+use Prim.Native.Nat.{ℕ, suc, _+_, _-_, _≤_, _<_}
 use native.Mathlib.Numerals.{add-one}
-use native.Mathlib.Omega.{arith}
 use mathlib.Core.Path.{_≡_, refl, sym, ap, _∙_}
-use mathlib.Core.Bool.{Bool, true, false, _&&_, _||_, not}
+use mathlib.Core.Bool.{Bool, true, false, _&&_, not}
 use mathlib.Core.List.{List, [], _∷_}
-use lib.ListN.{length, getD, take, drop, drop-of-length-le, length-drop}
-use lib.Seq.{drop-cons, take-all}
+use lib.ListN.{length, getD, take, drop, drop-of-length-le}
+use lib.Seq.{drop-cons}
 use lib.Dec.{eqb}
 use borrow.Author.Tests.{eq-eqb, ne-eqb, not-true, not-false}
 use Rattle.text.specs.Pick.{pick, all, among}
 use Rattle.text.specs.Reading.{span, found, before}
+use Rattle.text.proofs.Booleans.{and-false}
+use Rattle.text.proofs.Parts.{rest-is}
 use Rattle.rules.specs.Tape.{isLetter}
 use Rattle.rules.specs.Columns.{isBlank, notBlank, blank, word, filled, isRoot}
-
--- a part to the end, as it is lent, is what is left
-pub to-end : (s : List ℕ) (i : ℕ) → take (length s - i) (drop i s) ≡ drop i s
-to-end s i = take-all (length s - i) (drop i s) (rw length-drop (omega arith))
+use Rattle.rules.proofs.Fields.{word-blank, word-byte}
 
 -- ---- every byte passes. Each is looked at, so that many are at once: `others` is 0 as long as none was found that does not pass
-
-and-shut : (b : Bool) → (b && false) ≡ false
-and-shut true = refl
-and-shut false = refl
 
 module _ (p : ℕ → Bool) (s : List ℕ) (others i : ℕ) (so : (eqb others 0 && all p (drop i s)) ≡ all p s) where
   one-more : i < length s → all p (drop i s) ≡ (p (getD s i 0) && all p (drop (i + 1) s))
@@ -32,7 +25,7 @@ module _ (p : ℕ → Bool) (s : List ℕ) (others i : ℕ) (so : (eqb others 0 
 
   pub other-found : (k : ℕ) → k ≡ 1 → i < length s → p (getD s i 0) ≡ false → (eqb k 0 && all p (drop (i + 1) s)) ≡ all p s
   other-found k e h q =
-      let z : (eqb others 0 && all p (drop i s)) ≡ false = rw (one-more h, q) (and-shut (eqb others 0)) in
+      let z : (eqb others 0 && all p (drop i s)) ≡ false = rw (one-more h, q) (and-false (eqb others 0)) in
       rw e (sym z ∙ so)
 
   pub none-found : (k : ℕ) → k ≡ others → i < length s → p (getD s i 0) ≡ true → (eqb k 0 && all p (drop (i + 1) s)) ≡ all p s
@@ -118,7 +111,7 @@ module _ (p : ℕ → Bool) (s : List ℕ) (i : ℕ) (x : List ℕ) (e : (span p
 
 pub filled-by : (p : ℕ → Bool) (s : List ℕ) (k : ℕ) (r : Bool) → (span p s) .rest ≡ drop k s → r ≡ blank (take (length s - k) (drop k s)) → r ≡ filled p s
 unfolding filled
-filled-by p s k r e q = rw (e, ← to-end s k) q
+filled-by p s k r e q = rw (e, ← rest-is s k) q
 
 pub root-last : (s : List ℕ) (k : ℕ) (b r : Bool) → b ≡ isLetter (getD s 0 0) → not b ≡ false → (span isLetter s) .rest ≡ drop k s → r ≡ blank (take (length s - k) (drop k s)) → r ≡ isRoot s
 unfolding isRoot
@@ -130,19 +123,11 @@ not-blank : (c : ℕ) (b : Bool) → eqb c 32 ≡ b → notBlank c ≡ not b
 unfolding isBlank
 not-blank c b h = rw h
 
-word-no : (c : ℕ) (s : List ℕ) → c ≡ 32 → word (c ∷ s) ≡ []
-unfolding word
-word-no c s q = ap (λ r. r .got) (span-no notBlank c s (not-blank c true (eq-eqb c 32 q)))
-
-word-yes : (c : ℕ) (s : List ℕ) → (c ≡ 32 → ⊥) → word (c ∷ s) ≡ c ∷ word s
-unfolding word
-word-yes c s q = ap (λ r. r .got) (span-yes notBlank c s (not-blank c false (ne-eqb c 32 q)))
-
 pub word-stop : (s : List ℕ) (i : ℕ) → i < length s → getD s i 0 ≡ 32 → word (drop i s) ≡ []
-word-stop s i h q = rw (drop-cons s i 0 h) (word-no _ _ q)
+word-stop s i h q = rw (drop-cons s i 0 h) (word-blank _ _ q)
 
 pub word-more : (s : List ℕ) (i : ℕ) → i < length s → (getD s i 0 ≡ 32 → ⊥) → word (drop i s) ≡ getD s i 0 ∷ word (drop (suc i) s)
-word-more s i h q = rw (drop-cons s i 0 h) (word-yes _ _ q)
+word-more s i h q = rw (drop-cons s i 0 h) (word-byte _ _ q)
 
 pub word-end : (s : List ℕ) (i : ℕ) → length s ≤ i → word (drop i s) ≡ []
 unfolding word span

@@ -2,15 +2,15 @@
 use Prim.Native.Nat.{ℕ, zero, suc, _+_, _-_, _≤_, _<_}
 use native.Mathlib.Numerals.{add-one}
 use native.Mathlib.Omega.{arith}
-use mathlib.Core.Path.{_≡_, refl, sym, ap, _∙_}
+use mathlib.Core.Path.{_≡_, refl, sym, _∙_}
 use mathlib.Core.Bool.{Bool, true, false, not}
 use mathlib.Core.List.{List, [], _∷_}
 use lib.ListN.{length, getD, take, drop, drop-of-length-le}
 use lib.Seq.{drop-cons, length-take-le}
 use borrow.Author.Tests.{not-true, not-false}
 use Rattle.text.specs.Pick.{pick}
+use Rattle.text.proofs.Parts.{rest-is}
 use Rattle.named.specs.Cut.{isAfter}
-use Rattle.words.proofs.Fields.{rest-is}
 use Rattle.heading.specs.Name.{countOf}
 use Rattle.heading.specs.Head.{nameCount}
 

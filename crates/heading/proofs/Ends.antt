@@ -1,8 +1,8 @@
 -- Laws of what follows a root, in the form that the code's needs have. Assumes nothing.
-use Prim.Native.Nat.{ℕ, zero, suc, _+_, _-_, _≤_, _<_}
+use Prim.Native.Nat.{ℕ, _-_, _≤_, _<_}
 use native.Mathlib.Omega.{arith}
-use mathlib.Core.Path.{_≡_, refl, sym, ap, _∙_}
-use mathlib.Core.Bool.{Bool, true, false, _&&_, _||_, not}
+use mathlib.Core.Path.{_≡_, refl, sym, _∙_}
+use mathlib.Core.Bool.{Bool, true, false, _&&_, not}
 use mathlib.Core.List.{List, [], _∷_}
 use lib.ListN.{length, getD, take, drop}
 use lib.Seq.{length-take-le}
@@ -12,9 +12,9 @@ use Rattle.text.specs.Bytes.{bytes}
 use Rattle.text.specs.Pick.{pick, same, among}
 use Rattle.text.specs.Reading.{heads}
 use Rattle.text.proofs.Texts.{and-left}
+use Rattle.text.proofs.Parts.{rest-is}
 use Rattle.rules.specs.Tape.{isLetter, isRaised}
 use Rattle.rules.specs.Names.{isSuffix}
-use Rattle.words.proofs.Fields.{rest-is}
 use Rattle.heading.specs.Name.{countOf, endsIn, suffixText, lawfulRoot, endsLawfully, appendageOf, nameOn}
 
 -- ---- a text at the end

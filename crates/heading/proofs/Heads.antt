@@ -1,18 +1,18 @@
 -- Laws of the conditions after a name and of a side's head, in the form that the code's needs have. Assumes nothing.
-use Prim.Native.Nat.{ℕ, zero, suc, _+_, _-_, _≤_, _<_}
+use Prim.Native.Nat.{ℕ, _-_, _≤_}
 use native.Mathlib.Omega.{arith}
-use mathlib.Core.Path.{_≡_, refl, sym, ap, _∙_}
+use mathlib.Core.Path.{_≡_, refl, sym, _∙_}
 use mathlib.Core.Bool.{Bool, true, false, _&&_, _||_, not}
 use mathlib.Core.List.{List, [], _∷_}
 use lib.ListN.{length, getD, take, drop}
-use lib.Dec.{eqb, leb}
+use lib.Dec.{eqb}
 use borrow.Author.Tests.{eq-eqb, ne-eqb, not-true, not-false}
 use Rattle.text.specs.Bytes.{bytes}
 use Rattle.text.specs.Pick.{pick}
 use Rattle.text.specs.Reading.{starts}
+use Rattle.text.proofs.Parts.{rest-is, starts-within}
 use Rattle.named.specs.Cut.{isAfter}
 use Rattle.rules.specs.Tape.{isUpper}
-use Rattle.words.proofs.Fields.{rest-is, front-length}
 use Rattle.rules.specs.declared.Letters.{Letters}
 use Rattle.heading.specs.Name.{countOf, nameOn}
 use Rattle.heading.specs.Head.{soldIn, afterIn, nameCount, namedBy, inRun, headAt, againBy, againIn, againAt}
@@ -27,7 +27,7 @@ use Rattle.heading.specs.declared.AgainAnswer.the-variants.{Again, NotAg
 
 module _ (s : List ℕ) (q : Bool) (e : q ≡ starts (bytes ".ND") s) where
   pub next-room : q ≡ true → 3 ≤ length s
-  next-room y = front-length (bytes ".ND") s (sym e ∙ y)
+  next-room y = starts-within (bytes ".ND") s (sym e ∙ y)
 
   pub next-day : (r : AfterAnswer) → q ≡ true → r ≡ soldIn true (take (length s - 3) (drop 3 s)) → r ≡ afterIn s
   unfolding afterIn pick
@@ -107,7 +107,7 @@ module _ (name run : List ℕ) (h : length run ≡ 0 → ⊥) (q : Bool) (e : q 
   again-not n = rw (again-some name run h, ← e, not-true q n)
 
   pub again-room : not q ≡ false → length name ≤ length run
-  again-room y = front-length name run (sym e ∙ not-false q y)
+  again-room y = starts-within name run (sym e ∙ not-false q y)
 
   pub again-yes : (a : AfterAnswer) (r : AgainAnswer) → not q ≡ false → a ≡ afterIn (take (length run - length name) (drop (length name) run)) → r ≡ againBy (length run) a → r ≡ againIn name run
   unfolding pick

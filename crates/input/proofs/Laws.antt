@@ -5,7 +5,7 @@ use mathlib.Core.Path.{_≡_}
 use mathlib.Core.Bool.{true, false}
 use mathlib.Core.List.{List}
 use lib.ListN.{length, take}
-use Rattle.blocks.proofs.Fronts.{counted}
+use Rattle.text.proofs.Parts.{counted}
 use Rattle.rules.specs.Day.{opened}
 use Rattle.rules.specs.declared.Settings.{Settings}
 use Rattle.input.specs.State.{opening, over, goneOn, allTaken, Within, More}

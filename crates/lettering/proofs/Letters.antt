@@ -1,17 +1,17 @@
 -- Laws of condition letters: the loops over a field's word, i bytes of which are passed; x is the answer. Assumes nothing.
-use Prim.Native.Nat.{ℕ, zero, suc, _+_, _-_, _≤_, _<_}
+use Prim.Native.Nat.{ℕ, suc, _+_, _-_, _≤_, _<_}
 use native.Mathlib.Numerals.{add-one}
-use mathlib.Core.Path.{_≡_, refl, sym, ap, _∙_}
-use mathlib.Core.Bool.{Bool, true, false, _&&_, _||_, not}
-use mathlib.Core.List.{List, [], _∷_}
+use mathlib.Core.Path.{_≡_, sym}
+use mathlib.Core.Bool.{Bool, true, false}
+use mathlib.Core.List.{List}
 use lib.ListN.{length, getD, take, drop}
-use borrow.Author.Tests.{eq-eqb, ne-eqb, not-true, not-false}
+use borrow.Author.Tests.{eq-eqb, ne-eqb}
 use Rattle.text.specs.Bytes.{bytes}
 use Rattle.text.specs.Pick.{pick, among}
-use Rattle.rules.specs.declared.Letters.{Letters}
+use Rattle.text.proofs.Parts.{rest-is}
 use Rattle.rules.specs.Columns.{word}
 use Rattle.rules.specs.Conditions.{lettersIn, unrepeated, noneOf, atMostOne, lawfulLetters}
-use Rattle.field.proofs.Texts.{to-end, word-stop, word-more, word-end}
+use Rattle.field.proofs.Texts.{word-stop, word-more, word-end}
 
 -- ---- a letter stands in the word
 
@@ -41,12 +41,12 @@ module _ (s : List ℕ) (i : ℕ) (x : Bool) (e : unrepeated (word (drop i s)) �
 
   pub unrepeated-no : (r : Bool) → i < length s → (getD s i 0 ≡ 32 → ⊥) → r ≡ among (getD s i 0) (word (take (length s - (i + 1)) (drop (i + 1) s))) → r ≡ true → false ≡ x
   unfolding unrepeated
-  unrepeated-no r h k q t = rw (← e, word-more s i h k, ← add-one, ← to-end s (i + 1), ← q, t)
+  unrepeated-no r h k q t = rw (← e, word-more s i h k, ← add-one, ← rest-is s (i + 1), ← q, t)
 
   pub unrepeated-more : (r : Bool) → i < length s → (getD s i 0 ≡ 32 → ⊥) → r ≡ among (getD s i 0) (word (take (length s - (i + 1)) (drop (i + 1) s))) → r ≡ false → unrepeated (word (drop (i + 1) s)) ≡ x
   unfolding unrepeated
   unrepeated-more r h k q t =
-      let f : r ≡ among (getD s i 0) (word (drop (suc i) s)) = rw (to-end s (i + 1), add-one i) at q in
+      let f : r ≡ among (getD s i 0) (word (drop (suc i) s)) = rw (rest-is s (i + 1), add-one i) at q in
       rw (← e, word-more s i h k, ← f, t, add-one)
 
   pub unrepeated-end : length s ≤ i → true ≡ x
@@ -79,7 +79,7 @@ module _ (g s : List ℕ) (i : ℕ) (x : Bool) (e : atMostOne g (word (drop i s)
 
   pub most-one : (r n : Bool) → i < length s → (getD s i 0 ≡ 32 → ⊥) → r ≡ among (getD s i 0) g → r ≡ true → n ≡ noneOf g (word (take (length s - (i + 1)) (drop (i + 1) s))) → n ≡ x
   unfolding atMostOne pick
-  most-one r n h k q t f = rw (← e, word-more s i h k, ← q, t, ← add-one) (rw (to-end s (i + 1)) at f)
+  most-one r n h k q t f = rw (← e, word-more s i h k, ← q, t, ← add-one) (rw (rest-is s (i + 1)) at f)
 
   pub most-more : (r : Bool) → i < length s → (getD s i 0 ≡ 32 → ⊥) → r ≡ among (getD s i 0) g → r ≡ false → atMostOne g (word (drop (i + 1) s)) ≡ x
   unfolding atMostOne pick

@@ -1,20 +1,17 @@
 -- A correction that one line can print is read whole, at least, where it stands. Assumes nothing.
-use Prim.Native.Nat.{ℕ, zero, suc, _+_, _≤_, _<_}
+use Prim.Native.Nat.{ℕ, _+_, _≤_, _<_}
 use native.Mathlib.Omega.{arith}
-use mathlib.Core.Path.{_≡_, refl, sym, ap, _∙_, subst}
-use mathlib.Core.Logic.{_⊎_, inl, inr, ⊎-elim}
-use mathlib.Core.Bool.{Bool, true, false, _&&_, _||_, not}
-use mathlib.Core.List.{List, [], _∷_, _++_, append-assoc}
+use mathlib.Core.Path.{_≡_, refl, sym, ap, _∙_}
+use mathlib.Core.Logic.{_⊎_, ⊎-elim}
+use mathlib.Core.Bool.{Bool, true, false, _||_, not}
+use mathlib.Core.List.{List, [], _++_, append-assoc}
 use lib.Dec.{eqb, leb}
 use lib.ListN.{length, take, drop, length-append}
-use lib.Seq.{drop-drop}
 use Rattle.text.proofs.Tests.{is-ne}
-use borrow.Author.Tests.{eqb-true, leb-true}
+use borrow.Author.Tests.{eqb-true}
 use Rattle.text.specs.Pick.{pick, opt, among}
 use Rattle.text.specs.Reading.{heads}
-use Rattle.text.proofs.Texts.{and-left, and-right}
 use Rattle.rules.specs.Tape.{isUpper}
-use Rattle.rules.specs.Columns.{between}
 use Rattle.rules.specs.Names.{nameText}
 use Rattle.rules.specs.Price.{priceText}
 use Rattle.rules.specs.Volume.{volumeText}
@@ -28,44 +25,35 @@ use Rattle.named.proofs.Root.{false-true, either}
 use Rattle.compose.specs.Shown.{Enterable, Showable}
 use Rattle.heading.specs.Name.{nameOn}
 use Rattle.heading.specs.Head.{lettersAfter, headAt}
-use Rattle.heading.specs.declared.NameAnswer.{NameAnswer}
-use Rattle.heading.specs.declared.NameAnswer.the-variants.{Named, NoName}
+use Rattle.heading.specs.declared.NameAnswer.the-variants.{Named}
 use Rattle.nameable.proofs.Counts.{drop-front}
 use Rattle.nameable.proofs.Lawful.{name-lawful}
 use Rattle.nameable.proofs.Head.{headRead, head-found}
 use Rattle.sideread.specs.declared.Beside.the-variants.{Alone, With}
-use Rattle.sideread.specs.declared.SideAnswer.the-variants.{Sided, NoSide}
 use Rattle.sideread.specs.Side.{sideAt}
-use Rattle.reader.specs.declared.PrintRead.{PrintRead}
-use Rattle.reader.specs.declared.ReadAnswer.{ReadAnswer}
-use Rattle.reader.specs.declared.ReadAnswer.the-variants.{Trade, Refused}
-use Rattle.reader.specs.Read.{tradeSide, tradeHead, tradeAt}
-use Rattle.longest.proofs.SideBack.{some-price, flagOf, shown-n, shown-sold, Reaches, side-reaches}
+use Rattle.longest.proofs.SideBack.{some-price, flagOf, shown-n, shown-sold}
 use Rattle.text.specs.Bytes.{bytes}
-use Rattle.text.specs.Reading.{starts, isDigit, dotDigit}
+use Rattle.text.specs.Reading.{starts, dotDigit}
 use Rattle.text.proofs.Reading.{starts-append}
-use Rattle.rules.specs.Correction.{endPair, cancelText}
+use Rattle.rules.specs.Correction.{endPair}
 use Rattle.volumescan.specs.Volume.{explains}
 use Rattle.sideread.specs.Side.{beside}
 use Rattle.tails.specs.declared.Taken.{Taken}
-use Rattle.reader.specs.declared.EndedAnswer.{EndedAnswer}
-use Rattle.reader.specs.declared.EndedAnswer.the-variants.{Ended, NotEnded}
-use Rattle.reader.specs.Read.{endAt, endedBy, cancelSide, cancelHead, cancelAt}
+use Rattle.reader.specs.Read.{endAt}
 use Rattle.nameable.proofs.Counts.{take-front}
-use Rattle.longest.proofs.Figures.{unmarked-pair}
-use Rattle.longest.proofs.TailExact.{lettersBefore, ended-pair, TailEnd, ended, more}
+use Rattle.longest.proofs.TailExact.{lettersBefore, TailEnd, ended, more}
 use Rattle.longest.proofs.SideExact.{Closes, SideEnds, side-ends}
 use Rattle.longest.proofs.TradeBack.{flag-there, volume-in}
 use Rattle.text.specs.Pick.{all}
 use Rattle.rules.specs.Correction.{repeatsName, correctionText}
 use Rattle.rules.specs.Line.{alike}
 use Rattle.text.proofs.Tests.{is-le}
+use Rattle.text.proofs.Booleans.{neither}
 use Rattle.named.specs.Cut.{oneSold}
-use Rattle.volumescan.specs.declared.Volume.{Volume}
 use Rattle.heading.specs.Head.{againAt}
 use Rattle.heading.specs.declared.AgainRead.{AgainRead}
 use Rattle.heading.specs.declared.AgainAnswer.{AgainAnswer}
-use Rattle.heading.specs.declared.AgainAnswer.the-variants.{Again, NotAgain}
+use Rattle.heading.specs.declared.AgainAnswer.the-variants.{Again}
 use Rattle.named.proofs.Back.{name-upper, name-some}
 use Rattle.nameable.proofs.Head.{name-short}
 use Rattle.nameable.proofs.Again.{againRead, again-found, again-none}
@@ -134,10 +122,6 @@ exactly got network size x R a b y h n f (more g l u s) = absurd (false-true (sy
 
 -- ---- the name again, or not
 
-none-of : (a b : Bool) → (a || b) ≡ false → (a ≡ false) × (b ≡ false)
-none-of true b h = absurd (false-true (sym h))
-none-of false b h = (refl, h)
-
 -- letters that do not repeat the name put nothing behind it
 record Plain (x : Letters) : Type 0 where
   no-s : x .s ≡ false
@@ -149,13 +133,13 @@ record Plain (x : Letters) : Type 0 where
 plain : (x : Letters) → repeatsName x ≡ false → Plain x
 unfolding repeatsName
 plain x h =
-    let a = none-of (x .s) _ h in
-    let b = none-of (x .l) _ (a .1) in
-    let c = none-of (x .o) _ (b .1) in
-    let d = none-of (x .c) _ (c .1) in
-    let e = none-of (x .k) _ (d .1) in
-    let f = none-of (x .n) _ (e .1) in
-    let g = none-of (x .m) _ (f .1) in
+    let a = neither (x .s) _ h in
+    let b = neither (x .l) _ (a .1) in
+    let c = neither (x .o) _ (b .1) in
+    let d = neither (x .c) _ (c .1) in
+    let e = neither (x .k) _ (d .1) in
+    let f = neither (x .n) _ (e .1) in
+    let g = neither (x .m) _ (f .1) in
     record { no-s = a .0; no-l = b .0; no-o = c .0; no-n = f .0; no-m = g .0 }
 
 nothing-after : (x : Letters) → Plain x → afterName x ≡ []

@@ -1,89 +1,41 @@
 -- What is read of a correction is one that a line can print. Assumes nothing.
-use Prim.Native.Nat.{ℕ, zero, suc, _+_, _-_, _*_, _^_, _≤_, _<_}
-use native.Mathlib.Nat.{zero-add}
-use native.Mathlib.Omega.{arith}
-use mathlib.Core.Path.{_≡_, refl, sym, ap, _∙_, subst}
+use Prim.Native.Nat.{ℕ, _+_, _-_, _≤_, _<_}
+use mathlib.Core.Path.{_≡_, refl, sym, ap, _∙_}
 use mathlib.Core.Logic.{_⊎_, inl, inr, ⊎-elim}
-use mathlib.Core.Bool.{Bool, true, false, _&&_, _||_, not}
-use mathlib.Core.List.{List, [], _∷_, _++_, append-assoc, append-nil}
-use lib.Dec.{eqb, leb, ltb}
+use mathlib.Core.Bool.{Bool, true, false, _||_}
+use mathlib.Core.List.{List, _++_, append-assoc}
+use lib.Dec.{eqb, leb}
 use borrow.Author.Tests.{eqb-true}
-use mathlib.Core.Option.{Option, none, some}
-use lib.ListN.{length, take, drop, length-append, length-take, length-drop}
-use lib.Seq.{drop-drop}
+use lib.ListN.{length, take, drop}
 use Rattle.text.specs.Bytes.{bytes}
 use Rattle.text.specs.Pick.{pick, opt, among}
-use Rattle.text.proofs.Texts.{and-left, and-right}
-use Rattle.text.proofs.Tests.{is-lt, is-le}
-use Rattle.rules.specs.Columns.{between}
-use Rattle.rules.specs.Price.{priceText, units}
-use Rattle.rules.specs.Volume.{volumeText}
 use Rattle.rules.specs.Conditions.{onNetwork}
-use Rattle.rules.specs.Side.{tailText}
-use Rattle.rules.specs.Line.{isPrice, isUnit, isNetwork}
-use Rattle.rules.specs.declared.Letters.{Letters}
-use Rattle.rules.specs.declared.Price.{Price}
-use Rattle.rules.specs.declared.Side.{Side}
-use Rattle.prices.specs.Sound.{Sound}
-use Rattle.named.specs.Cut.{oneSold}
+use Rattle.rules.specs.Line.{isNetwork}
 use Rattle.named.proofs.Root.{false-true, either}
-use Rattle.compose.specs.Shown.{letterCount, oneDelivery, showable, Showable}
-use Rattle.scan.specs.declared.PriceRead.{PriceRead}
-use Rattle.scan.specs.declared.PriceAnswer.{PriceAnswer}
-use Rattle.scan.specs.declared.PriceAnswer.the-variants.{Priced, NoPrice}
-use Rattle.volumescan.specs.declared.Volume.{Volume}
-use Rattle.volumescan.specs.declared.Volume.the-variants.{Unsaid, Hundreds, Tens, Shares}
-use Rattle.volumescan.specs.declared.VolumeRead.{VolumeRead}
-use Rattle.volumescan.specs.declared.VolumeAnswer.{VolumeAnswer}
-use Rattle.volumescan.specs.declared.VolumeAnswer.the-variants.{Said, NoVolume}
-use Rattle.scan.specs.Price.{priceAt}
-use Rattle.volumescan.specs.Volume.{volumeAt, sharesIn, figuresOf, saidText, explains, explainsBoth, explained}
-use Rattle.scan.proofs.Text.{PriceFound, price-found}
-use Rattle.volumescan.proofs.Shown.{VolumeFound, volume-found, explained-text, explained-some, shares-small}
-use Rattle.heading.specs.Head.{lettersAfter}
-use Rattle.tails.specs.declared.Taken.{Taken}
-use Rattle.tails.specs.Tail.{plusCash, plusAverage, plusStopped, plusSeller, plusRule, plusPrevious, sideWith as tails·sideWith, cashAt, averageAt, stoppedAt, sellerAt, ruleAt, previousAt, afterPriceAt, atEndAt, tailAt}
-use Rattle.tails.proofs.Standing.{cash-keeps, average-keeps, stopped-keeps, seller-keeps, rule-keeps, Bare, tail-text, tail-from, tail-within}
-use Rattle.tails.proofs.Lawful.{one as tails·one, letterCount as tails·letterCount, Lawful, bare-lawful, tail-lawful}
-use Rattle.tails.proofs.Kept.{previous-keeps, Explained, tail-explained, tail-volume, tail-price, tail-o, tail-s, tail-l, tail-n, tail-m, tail-c}
-use Rattle.sideread.specs.declared.Beside.{Beside}
+use Rattle.compose.specs.Shown.{Showable}
+use Rattle.volumescan.specs.Volume.{explains}
 use Rattle.sideread.specs.declared.Beside.the-variants.{Alone, With}
 use Rattle.sideread.specs.declared.SideRead.{SideRead}
-use Rattle.sideread.specs.declared.SideAnswer.{SideAnswer}
-use Rattle.sideread.specs.declared.SideAnswer.the-variants.{Sided, NoSide}
-use Rattle.sideread.specs.Side.{headCount, beside, sidedBy, sideWith, saidSide, orElse, sideAt}
-use Rattle.text.specs.Pick.{all}
+use Rattle.sideread.specs.declared.SideAnswer.the-variants.{Sided}
+use Rattle.sideread.specs.Side.{beside, sideAt}
 use Rattle.text.specs.Reading.{starts}
 use Rattle.rules.specs.Names.{nameText}
 use Rattle.rules.specs.Conditions.{afterName}
-use Rattle.rules.specs.Side.{headText, sideText}
-use Rattle.rules.specs.Shown.{conditionsOf}
-use Rattle.rules.specs.NormalPrint.{ReadFact, readTrade}
+use Rattle.rules.specs.Side.{sideText}
 use Rattle.compose.specs.Shown.{Enterable}
-use Rattle.compose.specs.Printable.{partIn, Printable, by-trade}
-use Rattle.rules.specs.Correction.{endPair, cancelText}
-use Rattle.volumescan.proofs.Shown.{starts-take}
-use Rattle.heading.specs.Name.{nameOn}
-use Rattle.heading.specs.Head.{headAt}
+use Rattle.rules.specs.Correction.{endPair}
+use Rattle.text.proofs.Parts.{starts-front}
 use Rattle.heading.specs.declared.NameRead.{NameRead}
-use Rattle.heading.specs.declared.NameAnswer.{NameAnswer}
-use Rattle.heading.specs.declared.NameAnswer.the-variants.{Named, NoName}
-use Rattle.nameable.proofs.Built.{Built, name-built}
-use Rattle.nameable.proofs.Head.{HeadTold, head-told}
-use Rattle.reader.specs.declared.PrintRead.{PrintRead}
-use Rattle.reader.specs.declared.ReadAnswer.{ReadAnswer}
-use Rattle.reader.specs.declared.ReadAnswer.the-variants.{Announcement, Trade, Cancel, Error, Correction, Refused}
-use Rattle.rules.specs.declared.Refusal.the-variants.{NoPrint}
-use Rattle.reader.specs.Read.{tradeSide, tradeHead, tradeAt, endAt}
-use Rattle.normal.proofs.Views.{printable-as}
+use Rattle.nameable.proofs.Built.{name-built}
+use Rattle.nameable.proofs.Head.{HeadTold}
+use Rattle.reader.specs.Read.{endAt}
 use Rattle.longest.proofs.Side.{Unit, Headed, SideTold, side-told, two-fronts}
 use Rattle.longest.proofs.Shows.{Explains, explains-side}
 use Rattle.rules.specs.Correction.{repeatsName, correctionText}
 use Rattle.rules.specs.Line.{alike}
 use Rattle.heading.specs.Head.{againAt}
 use Rattle.heading.specs.declared.AgainRead.{AgainRead}
-use Rattle.heading.specs.declared.AgainAnswer.{AgainAnswer}
-use Rattle.heading.specs.declared.AgainAnswer.the-variants.{Again, NotAgain}
+use Rattle.heading.specs.declared.AgainAnswer.the-variants.{Again}
 use Rattle.nameable.proofs.Again.{AgainTold, again-told}
 use Rattle.longest.proofs.Shows.{shows-on, on-network-a, on-network-b}
 use Rattle.longest.proofs.Sound.{headed, side-text, on-network, end-told}
@@ -180,7 +132,7 @@ module _ (s : List ℕ) (opens : starts (bytes "<<CORR.") s ≡ true) (h : NameR
   original : take (7 + h .used + x .taken .used) s ≡ bytes "<<CORR." ++ sideText name network unit true true (x .taken .side)
   original =
       two-fronts s (7 + h .used) (x .taken .used)
-      ∙ ap (λ z. z ++ take (x .taken .used) first-part) (two-fronts s 7 (h .used) ∙ ap (λ z. z ++ take (h .used) (drop 7 s)) (starts-take (bytes "<<CORR.") s opens) ∙ ap (λ z. bytes "<<CORR." ++ z) (k .text))
+      ∙ ap (λ z. z ++ take (x .taken .used) first-part) (two-fronts s 7 (h .used) ∙ ap (λ z. z ++ take (h .used) (drop 7 s)) (starts-front (bytes "<<CORR.") s opens) ∙ ap (λ z. bytes "<<CORR." ++ z) (k .text))
       ∙ append-assoc (bytes "<<CORR.") (name ++ afterName (h .letters)) (take (x .taken .used) first-part)
       ∙ ap (λ z. bytes "<<CORR." ++ z) (sym (first-text name))
 
@@ -189,7 +141,7 @@ module _ (s : List ℕ) (opens : starts (bytes "<<CORR.") s ≡ true) (h : NameR
   up-to =
       let n = 7 + h .used + x .taken .used in
       two-fronts s (n + 4 + g .used) (y .taken .used)
-      ∙ ap (λ z. z ++ take (y .taken .used) second-part) (two-fronts s (n + 4) (g .used) ∙ ap (λ z. take (n + 4) s ++ z) (again .text) ∙ ap (λ z. z ++ (opt (again .repeated) name ++ afterName (g .letters))) (two-fronts s n 4 ∙ ap (λ z. take n s ++ z) (starts-take (bytes "WAS.") (drop n s) was) ∙ ap (λ z. z ++ bytes "WAS.") original))
+      ∙ ap (λ z. z ++ take (y .taken .used) second-part) (two-fronts s (n + 4) (g .used) ∙ ap (λ z. take (n + 4) s ++ z) (again .text) ∙ ap (λ z. z ++ (opt (again .repeated) name ++ afterName (g .letters))) (two-fronts s n 4 ∙ ap (λ z. take n s ++ z) (starts-front (bytes "WAS.") (drop n s) was) ∙ ap (λ z. z ++ bytes "WAS.") original))
       ∙ append-assoc (bytes "<<CORR." ++ sideText name network unit true true (x .taken .side) ++ bytes "WAS.") (opt (again .repeated) name ++ afterName (g .letters)) (take (y .taken .used) second-part)
       ∙ ap (λ z. (bytes "<<CORR." ++ sideText name network unit true true (x .taken .side) ++ bytes "WAS.") ++ z) (sym (second-text (opt (again .repeated) name)))
 

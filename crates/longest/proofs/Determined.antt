@@ -1,46 +1,41 @@
 -- The name and the facts of a normal print are determined by its text. Assumes nothing.
-use Prim.Native.Nat.{ℕ, zero, suc, _+_, _-_, _*_, _^_, _≤_, _<_}
+use Prim.Native.Nat.{ℕ, _+_, _-_, _*_, _^_, _≤_, _<_}
 use native.Mathlib.Nat.{zero-mul}
 use native.Mathlib.Omega.{arith}
-use mathlib.Core.Path.{_≡_, refl, sym, ap, _∙_, subst}
-use mathlib.Core.Bool.{Bool, true, false, _&&_, _||_, not}
-use mathlib.Core.List.{List, [], _∷_, _++_, append-assoc, append-nil}
-use mathlib.Core.Option.{Option, none, some}
-use lib.Dec.{eqb, leb, ltb}
-use lib.ListN.{length, take, drop}
-use borrow.Author.Tests.{eqb-true, leb-true, ltb-true}
+use mathlib.Core.Path.{_≡_, refl, sym, ap, _∙_}
+use mathlib.Core.Bool.{Bool, true, false, _&&_, not}
+use mathlib.Core.List.{List, [], _++_, append-assoc, append-nil}
+use mathlib.Core.Option.{none, some}
+use lib.Dec.{eqb, leb}
+use lib.ListN.{drop}
+use borrow.Author.Tests.{eqb-true, leb-true}
 use Rattle.text.specs.Bytes.{bytes}
 use Rattle.text.specs.Pick.{pick, opt, all}
-use Rattle.text.specs.Reading.{Read, found, heads, starts, past}
+use Rattle.text.specs.Reading.{found, heads, starts, past}
 use Rattle.text.proofs.Texts.{and-left, and-right}
 use Rattle.text.proofs.Reading.{past-append}
+use Rattle.text.proofs.Parts.{heads-append, all-append}
 use Rattle.rules.specs.Tape.{isLetter, isUpper}
 use Rattle.rules.specs.Columns.{between}
 use Rattle.rules.specs.Names.{nameText}
 use Rattle.rules.specs.Price.{units}
 use Rattle.rules.specs.Conditions.{afterName}
-use Rattle.rules.specs.Side.{headText, tailText, sideText}
+use Rattle.rules.specs.Side.{headText, sideText}
 use Rattle.rules.specs.Announcement.{modeText, levelText}
 use Rattle.rules.specs.Correction.{repeatsName, endPair, cancelText, correctionText, cancelOpening, errorOpening}
 use Rattle.rules.specs.Line.{isPrice}
-use Rattle.rules.specs.Shown.{Conditions, conditionsOf, Part, inFull}
+use Rattle.rules.specs.Shown.{conditionsOf, Part, inFull}
 use Rattle.rules.specs.NormalPrint.{ReadFact, readAnnouncement, readTrade, readCancel, readError, readCorrection, NormalPrint}
 use Rattle.rules.specs.declared.Letters.{Letters}
-use Rattle.rules.specs.declared.Price.{Price}
 use Rattle.rules.specs.declared.Side.{Side}
-use Rattle.prices.specs.Sound.{Sound}
-use Rattle.prices.specs.Reading.{shownPrice}
 use Rattle.prices.proofs.PriceBack.{full-price}
-use Rattle.volumes.specs.Reading.{Shown, unsaid, sharesOf, shownOf}
+use Rattle.volumes.specs.Reading.{sharesOf}
 use Rattle.volumes.proofs.VolumeBack.{shares-back}
-use Rattle.conditions.specs.Reading.{Tail, tailOf}
 use Rattle.conditions.proofs.TailBack.{Ends}
 use Rattle.trade.specs.Reading.{SideRead, readSide, sideShown}
 use Rattle.trade.proofs.SideBack.{SideOk, side-back}
 use Rattle.named.specs.Plain.{NamePlain}
-use Rattle.named.specs.Cut.{Sold, opened, sold, last, soldOf, After, after, plain, afterOf, oneSold, Divided, divide}
-use Rattle.named.proofs.Root.{false-true}
-use Rattle.named.proofs.Parts.{all-append}
+use Rattle.named.specs.Cut.{sold, last, After, after, plain, afterOf, oneSold, Divided, divide}
 use Rattle.named.proofs.Back.{name-upper, name-head, name-back, conditions-upper}
 use Rattle.compose.specs.Shown.{Enterable, Showable}
 use Rattle.compose.specs.Printable.{partIn, Printable, by-mode, by-level, by-trade, by-cancel, by-error, by-correction}
@@ -48,9 +43,9 @@ use Rattle.normal.proofs.Normal.{normal-printable}
 use Rattle.decoder.specs.Decode.{conditionsBy, afterBy}
 use Rattle.decoder.specs.Lawful.{LawfulSide}
 use Rattle.decoder.proofs.Sides.{conditions-by}
-use Rattle.decoder.proofs.Fresh.{Fresh, fresh-end, fresh-was}
-use Rattle.decoder.proofs.Undone.{unrepeated, after-run}
-use Rattle.longest.proofs.Longest.{not-mark, mode-opens, level-opens, trade-letter}
+use Rattle.decoder.proofs.Fresh.{fresh-end, fresh-was}
+use Rattle.decoder.proofs.Undone.{unrepeated, after-run, mode-starts, level-starts}
+use Rattle.longest.proofs.Longest.{not-mark, trade-letter}
 use Rattle.longest.proofs.SideBack.{some-price, sound-price, shown-sold, shown-previous}
 
 -- ---- a side that a line can have is lawful
@@ -170,13 +165,9 @@ unfolding opt all
 upper-if true t h = h
 upper-if false t h = refl
 
-heads-on : (t u : List ℕ) → heads isLetter t ≡ true → heads isLetter (t ++ u) ≡ true
-heads-on [] u h = absurd (false-true h)
-heads-on (c ∷ t) u h = h
-
 again-after : (network : ℕ) (name : List ℕ) → NamePlain network name → (x : Letters) → oneSold x ≡ true → (b : Bool) → repeatsName x ≡ b → afterBy (opt b (nameText false name) ++ afterName x) ≡ afterOf x
 unfolding opt afterBy
-again-after network name e x o true r = after-run (nameText false name ++ afterName x) (afterOf x) (heads-on (nameText false name) (afterName x) (name-head network name e false)) (ap (λ d. d .conditions) (name-back network name e false x o))
+again-after network name e x o true r = after-run (nameText false name ++ afterName x) (afterOf x) (heads-append isLetter (nameText false name) (afterName x) (name-head network name e false)) (ap (λ d. d .conditions) (name-back network name e false x o))
 again-after network name e x o false r = let u = unrepeated x r in ap afterBy (u .0) ∙ sym (u .1)
 
 -- ---- the text of a print tells its name and its facts
@@ -263,8 +254,8 @@ unfolding told pick
 tells-announcement t h = rw h
 
 tells : {t n : List ℕ} {f : ReadFact} → Printable t n f → told t ≡ told-as n f
-tells (by-mode m n h) = tells-announcement (modeText m n) (ap (starts (bytes "<<<")) (sym (append-nil (modeText m n))) ∙ mode-opens m n [])
-tells (by-level n h) = tells-announcement (levelText n) (ap (starts (bytes "<<<")) (sym (append-nil (levelText n))) ∙ level-opens n [])
+tells (by-mode m n h) = tells-announcement (modeText m n) (ap (starts (bytes "<<<")) (sym (append-nil (modeText m n))) ∙ mode-starts m n [])
+tells (by-level n h) = tells-announcement (levelText n) (ap (starts (bytes "<<<")) (sym (append-nil (levelText n))) ∙ level-starts n [])
 tells (by-trade network unit name x e h) = tells-trade network unit name e x h
 tells (by-cancel network unit name x e h) = tells-cancel network unit name e x h
 tells (by-error network unit name x e h) = tells-error network unit name e x h

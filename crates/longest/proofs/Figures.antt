@@ -1,26 +1,26 @@
 -- A volume shown where a price stands goes beyond the price and all of its conditions. Assumes nothing.
-use Prim.Native.Nat.{ℕ, zero, suc, _+_, _-_, _*_, _/_, _%_, _^_, _≤_, _<_}
+use Prim.Native.Nat.{ℕ, zero, suc, _+_, _-_, _/_, _%_, _≤_, _<_}
 use native.Mathlib.Omega.{arith}
-use mathlib.Core.Path.{_≡_, refl, sym, ap, _∙_, subst}
-use mathlib.Core.Logic.{_⊎_, inl, inr, ⊎-elim}
-use mathlib.Core.Bool.{Bool, true, false, _&&_, _||_, not}
-use mathlib.Core.List.{List, [], _∷_, _++_, append-assoc, append-nil}
-use lib.Dec.{eqb, leb, ltb}
-use lib.ListN.{length, take, drop, length-append, length-take}
+use mathlib.Core.Path.{_≡_, refl, sym, ap, _∙_}
+use mathlib.Core.Bool.{Bool, true, false, _||_, not}
+use mathlib.Core.List.{List, [], _∷_, _++_, append-assoc}
+use lib.Dec.{eqb, ltb}
+use lib.ListN.{length, drop, length-append, length-take}
 use borrow.Author.Tests.{not-true}
 use Rattle.text.specs.Bytes.{bytes}
 use Rattle.text.specs.Pick.{pick, opt, all}
 use Rattle.text.specs.Decimal.{decimal, places}
 use Rattle.text.specs.Reading.{starts, heads, isDigit}
-use Rattle.text.proofs.Reading.{digit-yes, starts-append}
+use Rattle.text.proofs.Reading.{digit-yes}
 use Rattle.text.proofs.Decimal.{decimal-places}
 use Rattle.text.proofs.Texts.{and-left, and-right}
+use Rattle.text.proofs.Parts.{all-append}
+use Rattle.text.proofs.Booleans.{and-both}
 use Rattle.rules.specs.Price.{wholePart, fraction, wholeText, fractionText, priceText}
 use Rattle.rules.specs.Volume.{group, fullVolume}
 use Rattle.rules.specs.Conditions.{sellerText, previousText}
 use Rattle.rules.specs.declared.Price.{Price}
-use Rattle.named.proofs.Root.{false-true, both}
-use Rattle.named.proofs.Parts.{all-append}
+use Rattle.named.proofs.Root.{false-true}
 use Rattle.volumescan.specs.declared.Volume.{Volume}
 use Rattle.volumescan.specs.declared.Volume.the-variants.{Unsaid, Hundreds, Tens, Shares}
 use Rattle.volumescan.specs.declared.VolumeRead.{VolumeRead}
@@ -41,7 +41,7 @@ figure-digit q h = rw (digit-yes q h)
 
 one-figure : (q : ℕ) → q < 10 → all isFigure ((48 + q) ∷ []) ≡ true
 unfolding all
-one-figure q h = both (figure-digit q h) refl
+one-figure q h = and-both (figure-digit q h) refl
 
 places-figures : (k n : ℕ) → all isFigure (places k n) ≡ true
 unfolding places all

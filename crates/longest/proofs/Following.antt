@@ -1,10 +1,9 @@
 -- Where a print ends, when another print follows it: no longer print begins at its place. Assumes nothing.
-use Prim.Native.Nat.{ℕ, zero, suc, _+_, _≤_, _<_}
+use Prim.Native.Nat.{ℕ, _+_, _≤_, _<_}
 use native.Mathlib.Omega.{arith}
 use mathlib.Core.Path.{_≡_, refl, sym, ap, _∙_, subst}
-use mathlib.Core.Bool.{Bool, true, false, _&&_, _||_, not}
+use mathlib.Core.Bool.{Bool, true, false, _&&_, not}
 use mathlib.Core.List.{List, [], _∷_, _++_, append-assoc, append-nil}
-use mathlib.Core.Logic.{_⊎_, inl, inr}
 use mathlib.Core.Option.{Option, none, some}
 use lib.Dec.{eqb, leb}
 use lib.ListN.{length, getD, drop}
@@ -14,8 +13,8 @@ use Rattle.text.specs.Pick.{pick, opt}
 use Rattle.text.specs.Reading.{Read, found, heads, isDigit, starts, past, dotDigit}
 use Rattle.text.proofs.Texts.{and-right}
 use Rattle.text.proofs.Reading.{past-append}
+use Rattle.text.proofs.Booleans.{and-false}
 use Rattle.rules.specs.Tape.{isLetter, isUpper}
-use Rattle.rules.specs.Columns.{between}
 use Rattle.rules.specs.Names.{nameText}
 use Rattle.rules.specs.Side.{sideText}
 use Rattle.rules.specs.Announcement.{minimumText, modeText, levelText}
@@ -24,12 +23,12 @@ use Rattle.rules.specs.NormalPrint.{ReadFact, NormalPrint}
 use Rattle.rules.specs.declared.Mode.{Mode}
 use Rattle.rules.specs.declared.Mode.the-variants.{Normal, Dvd, Rpo, Mpv}
 use Rattle.rules.specs.declared.Side.{Side}
+use Rattle.rules.proofs.Fields.{level-below}
 use Rattle.volumes.specs.Reading.{Mark, hundreds, tens, shares, markAt}
 use Rattle.conditions.proofs.TailBack.{Ends}
-use Rattle.trade.specs.Reading.{SideRead, readSide, sideShown}
+use Rattle.trade.specs.Reading.{readSide}
 use Rattle.announcement.specs.Reading.{Told, readAnnouncement}
 use Rattle.announcement.proofs.Back.{mode-back, level-back}
-use Rattle.named.specs.Plain.{NamePlain}
 use Rattle.named.proofs.Root.{false-true}
 use Rattle.named.proofs.Parts.{front-is}
 use Rattle.compose.specs.Shown.{Enterable, Showable}
@@ -37,8 +36,8 @@ use Rattle.compose.specs.Printable.{Printable, by-mode, by-level, by-trade, by-
 use Rattle.normal.proofs.Normal.{normal-printable}
 use Rattle.decoder.specs.Decode.{ended}
 use Rattle.decoder.proofs.Fresh.{Fresh, fresh-end, fresh-pair, fresh-was, side-fresh}
-use Rattle.decoder.proofs.Undone.{end-of, end-ends}
-use Rattle.longest.proofs.Longest.{not-mark, mode-opens, level-opens, trade-letter}
+use Rattle.decoder.proofs.Undone.{end-of, end-ends, mode-starts, level-starts}
+use Rattle.longest.proofs.Longest.{not-mark, trade-letter}
 use Rattle.longest.proofs.SideBack.{some-price}
 use Rattle.longest.proofs.Determined.{read-side, read-second, parts}
 
@@ -106,14 +105,10 @@ announced-end : (t : List ℕ) (r : Told) (s : List ℕ) → starts (bytes "<<<"
 unfolding endOf pick restOf
 announced-end t r s h e = rw h (ap restOf e)
 
-level-below : (n : ℕ) → between 5000 100000 n ≡ true → n < 1000000000
-unfolding between
-level-below n h = omega (leb-true n 100000 (and-right (leb 5000 n) _ h), arith)
-
 -- behind a print that may be followed so stands what follows it
 ends-at : {t n : List ℕ} {g : ReadFact} → Printable t n g → (s : List ℕ) → Fresh s → endOf (t ++ s) ≡ s
-ends-at (by-mode m n h) s f = announced-end (modeText m n) _ s (mode-opens m n s) (mode-back m n s)
-ends-at (by-level n h) s f = announced-end (levelText n) _ s (level-opens n s) (level-back n s (level-below n h))
+ends-at (by-mode m n h) s f = announced-end (modeText m n) _ s (mode-starts m n s) (mode-back m n s)
+ends-at (by-level n h) s f = announced-end (levelText n) _ s (level-starts n s) (level-back n s (level-below n h))
 ends-at (by-trade network unit name x e h) s f = trade-end network unit name e s f x h
 ends-at (by-cancel network unit name x e h) s f = cancel-end network unit name e s f x h
 ends-at (by-error network unit name x e h) s f = error-end network unit name e s f x h
@@ -142,14 +137,10 @@ starts-cut p u w h = go (starts p u) refl
     go true k = absurd (false-true (sym h ∙ starts-on p u w k))
     go false k = k
 
-and-none : (b : Bool) → (b && false) ≡ false
-and-none true = refl
-and-none false = refl
-
 dot-cut : (u w : List ℕ) → dotDigit (u ++ w) ≡ false → dotDigit u ≡ false
 unfolding dotDigit
 dot-cut [] w h = refl
-dot-cut (c ∷ []) w h = and-none (eqb c 44)
+dot-cut (c ∷ []) w h = and-false (eqb c 44)
 dot-cut (c ∷ d ∷ u) w h = h
 
 ends-cut : (u w : List ℕ) → Ends (u ++ w) → markAt u ≡ none → Ends u

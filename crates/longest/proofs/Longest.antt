@@ -1,74 +1,43 @@
 -- THE READER'S THEOREM: the answer at a place is the longest normal print there. Assumes nothing.
-use Prim.Native.Nat.{ℕ, zero, suc, _+_, _-_, _*_, _^_, _≤_, _<_}
-use native.Mathlib.Nat.{zero-add}
+use Prim.Native.Nat.{ℕ, _+_, _-_, _≤_, _<_}
 use native.Mathlib.Omega.{arith}
 use mathlib.Core.Path.{_≡_, refl, sym, ap, _∙_, subst}
-use mathlib.Core.Logic.{_⊎_, inl, inr, ⊎-elim}
-use mathlib.Core.Bool.{Bool, true, false, _&&_, _||_, not}
-use mathlib.Core.List.{List, [], _∷_, _++_, append-assoc, append-nil}
-use lib.Dec.{eqb, leb, ltb}
-use borrow.Author.Tests.{eqb-true, eqb-false, leb-true}
+use mathlib.Core.Bool.{Bool, true, false, _&&_}
+use mathlib.Core.List.{List, [], _∷_, _++_, append-assoc}
+use lib.Dec.{eqb, leb}
+use borrow.Author.Tests.{eqb-false, leb-true}
 use mathlib.Core.Option.{Option, none, some}
-use lib.ListN.{length, take, drop, length-append, length-take, length-drop}
-use lib.Seq.{drop-drop}
+use lib.ListN.{length, take, drop}
+use Rattle.decoder.proofs.Fresh.{letter-unlike}
+use Rattle.decoder.proofs.Undone.{mode-starts, level-starts}
 use Rattle.text.specs.Bytes.{bytes}
-use Rattle.text.specs.Pick.{pick, opt, among}
+use Rattle.text.specs.Pick.{pick, opt}
 use Rattle.text.proofs.Texts.{and-left, and-right}
-use Rattle.text.proofs.Tests.{is-lt, is-le}
+use Rattle.text.proofs.Tests.{is-le}
 use Rattle.rules.specs.Columns.{between}
-use Rattle.rules.specs.Price.{priceText, units}
+use Rattle.rules.specs.Price.{priceText}
 use Rattle.rules.specs.Volume.{volumeText}
-use Rattle.rules.specs.Conditions.{onNetwork}
 use Rattle.rules.specs.Side.{tailText}
-use Rattle.rules.specs.Line.{isPrice, isUnit, isNetwork}
-use Rattle.rules.specs.declared.Letters.{Letters}
-use Rattle.rules.specs.declared.Price.{Price}
 use Rattle.rules.specs.declared.Side.{Side}
-use Rattle.prices.specs.Sound.{Sound}
-use Rattle.named.specs.Cut.{oneSold}
-use Rattle.named.proofs.Root.{false-true, both, either}
-use Rattle.compose.specs.Shown.{letterCount, oneDelivery, showable, Showable}
-use Rattle.scan.specs.declared.PriceRead.{PriceRead}
-use Rattle.scan.specs.declared.PriceAnswer.{PriceAnswer}
-use Rattle.scan.specs.declared.PriceAnswer.the-variants.{Priced, NoPrice}
-use Rattle.volumescan.specs.declared.Volume.{Volume}
-use Rattle.volumescan.specs.declared.Volume.the-variants.{Unsaid, Hundreds, Tens, Shares}
-use Rattle.volumescan.specs.declared.VolumeRead.{VolumeRead}
-use Rattle.volumescan.specs.declared.VolumeAnswer.{VolumeAnswer}
-use Rattle.volumescan.specs.declared.VolumeAnswer.the-variants.{Said, NoVolume}
-use Rattle.scan.specs.Price.{priceAt}
-use Rattle.volumescan.specs.Volume.{volumeAt, sharesIn, figuresOf, saidText, explains, explainsBoth, explained}
-use Rattle.scan.proofs.Text.{PriceFound, price-found}
-use Rattle.volumescan.proofs.Shown.{VolumeFound, volume-found, explained-text, explained-some, shares-small}
-use Rattle.heading.specs.Head.{lettersAfter}
-use Rattle.tails.specs.declared.Taken.{Taken}
-use Rattle.tails.specs.Tail.{plusCash, plusAverage, plusStopped, plusSeller, plusRule, plusPrevious, sideWith as tails·sideWith, cashAt, averageAt, stoppedAt, sellerAt, ruleAt, previousAt, afterPriceAt, atEndAt, tailAt}
-use Rattle.tails.proofs.Standing.{cash-keeps, average-keeps, stopped-keeps, seller-keeps, rule-keeps, Bare, tail-text, tail-from, tail-within}
-use Rattle.tails.proofs.Lawful.{one as tails·one, letterCount as tails·letterCount, Lawful, bare-lawful, tail-lawful}
-use Rattle.tails.proofs.Kept.{previous-keeps, Explained, tail-explained, tail-volume, tail-price, tail-o, tail-s, tail-l, tail-n, tail-m, tail-c}
-use Rattle.sideread.specs.declared.Beside.{Beside}
+use Rattle.named.proofs.Root.{false-true, either}
+use Rattle.compose.specs.Shown.{Showable}
 use Rattle.sideread.specs.declared.Beside.the-variants.{Alone, With}
 use Rattle.sideread.specs.declared.SideRead.{SideRead}
 use Rattle.sideread.specs.declared.SideAnswer.{SideAnswer}
 use Rattle.sideread.specs.declared.SideAnswer.the-variants.{Sided, NoSide}
-use Rattle.sideread.specs.Side.{headCount, beside, sidedBy, sideWith, saidSide, orElse, sideAt}
-use Rattle.text.specs.Pick.{all}
+use Rattle.sideread.specs.Side.{sideAt}
 use Rattle.text.specs.Reading.{starts}
 use Rattle.rules.specs.Names.{nameText}
 use Rattle.rules.specs.Conditions.{afterName}
 use Rattle.rules.specs.Side.{headText, sideText}
-use Rattle.rules.specs.Shown.{conditionsOf}
-use Rattle.rules.specs.NormalPrint.{ReadFact, readTrade}
+use Rattle.rules.specs.NormalPrint.{ReadFact}
 use Rattle.compose.specs.Shown.{Enterable}
 use Rattle.compose.specs.Printable.{partIn, Printable, by-trade}
-use Rattle.rules.specs.Correction.{endPair, cancelText}
-use Rattle.volumescan.proofs.Shown.{starts-take}
-use Rattle.heading.specs.Name.{nameOn}
+use Rattle.rules.specs.Correction.{cancelText}
 use Rattle.heading.specs.Head.{headAt}
 use Rattle.heading.specs.declared.NameRead.{NameRead}
 use Rattle.heading.specs.declared.NameAnswer.{NameAnswer}
 use Rattle.heading.specs.declared.NameAnswer.the-variants.{Named, NoName}
-use Rattle.nameable.proofs.Built.{Built, name-built}
 use Rattle.nameable.proofs.Head.{HeadTold, head-told}
 use Rattle.reader.specs.declared.PrintRead.{PrintRead}
 use Rattle.reader.specs.declared.ReadAnswer.{ReadAnswer}
@@ -76,27 +45,21 @@ use Rattle.reader.specs.declared.ReadAnswer.the-variants.{Announcement, Trade, 
 use Rattle.rules.specs.declared.Refusal.the-variants.{NoPrint}
 use Rattle.reader.specs.Read.{tradeSide, tradeHead, tradeAt, endAt}
 use Rattle.normal.proofs.Views.{printable-as}
-use Rattle.longest.proofs.Side.{Unit, Headed, SideTold, side-told, two-fronts}
-use Rattle.longest.proofs.Shows.{Explains, explains-side}
 use Rattle.rules.specs.Correction.{repeatsName, correctionText}
 use Rattle.rules.specs.Line.{alike}
 use Rattle.heading.specs.Head.{againAt}
 use Rattle.heading.specs.declared.AgainRead.{AgainRead}
 use Rattle.heading.specs.declared.AgainAnswer.{AgainAnswer}
 use Rattle.heading.specs.declared.AgainAnswer.the-variants.{Again, NotAgain}
-use Rattle.nameable.proofs.Again.{AgainTold, again-told}
-use Rattle.longest.proofs.Shows.{shows-on, on-network-a, on-network-b}
-use Rattle.longest.proofs.Sound.{headed, side-text, on-network, end-told}
-use Rattle.text.proofs.Reading.{starts-append}
 use Rattle.text.specs.Reading.{heads}
 use Rattle.named.proofs.Back.{name-head}
 use Rattle.text.proofs.Tests.{is-ne}
+use Rattle.text.proofs.Parts.{heads-append}
+use Rattle.text.proofs.Booleans.{nonzero, and-both}
 use Rattle.rules.specs.Tape.{isLetter}
-use Rattle.rules.specs.Announcement.{modeText, minimumText, minimumDollars, levelText}
+use Rattle.rules.specs.Announcement.{modeText, levelText}
 use Rattle.rules.specs.Correction.{cancelOpening, errorOpening}
 use Rattle.rules.specs.NormalPrint.{NormalPrint, readAnnouncement, readCancel, readError, readCorrection}
-use Rattle.rules.specs.declared.Mode.{Mode}
-use Rattle.rules.specs.declared.Mode.the-variants.{Normal, Dvd, Rpo, Mpv}
 use Rattle.rules.specs.declared.Refusal.{Refusal}
 use Rattle.announced.specs.Announced.{Announced, mode, level, announcedLength}
 use Rattle.announced.proofs.Sound.{announced-told}
@@ -109,8 +72,8 @@ use Rattle.reader.specs.declared.EndedAnswer.the-variants.{Ended, NotEnded}
 use Rattle.reader.specs.Read.{endedBy, cancelSide, cancelHead, cancelAt, asCancel, asError, correctedBy, secondSide, secondHead, secondAt, correctionSide, correctionHead, correctionAt, announcedBy, printAt, readAt}
 use Rattle.reader.specs.Told.{lengthOf, nameFrom, nameLength, nameIn, nameAt, factIn}
 use Rattle.longest.specs.Claim.{Longest}
-use Rattle.longest.proofs.Sound.{trade-printable, CancelTold, cancel-told}
-use Rattle.longest.proofs.CorrectionSound.{CorrectionTold, correction-told}
+use Rattle.longest.proofs.Sound.{trade-printable, cancel-told}
+use Rattle.longest.proofs.CorrectionSound.{correction-told}
 use Rattle.longest.proofs.TradeBack.{trade-reaches}
 use Rattle.longest.proofs.CancelBack.{cancel-reaches}
 use Rattle.longest.proofs.CorrectionBack.{correction-reaches}
@@ -149,10 +112,6 @@ trade-tells s = trade-head-tells s (headAt true s) refl
 
 -- ---- cancels and errors
 
-some-number : (n : ℕ) → (n ≡ 0 → ⊥) → 1 ≤ n
-some-number zero h = absurd (h refl)
-some-number (suc n) h = omega arith
-
 -- of either opening
 module _ (opening s : List ℕ) (six : length opening ≡ 6) (opens : starts opening s ≡ true) (kind : Side → ReadFact)
     (by-kind : (network unit : ℕ) (name : List ℕ) (x : Side) → Enterable network unit name → Showable network x → Printable (cancelText opening (nameText false name) network unit true true x) (nameText false name) (kind x)) where
@@ -164,7 +123,7 @@ module _ (opening s : List ℕ) (six : length opening ≡ 6) (opens : starts ope
   unfolding pick
   cancel-something h k x e m f true z = not-told
   cancel-something h k x e m f false z =
-      let t = cancel-told opening s six opens h k x e m f (some-number m (eqb-false m 0 z)) in
+      let t = cancel-told opening s six opens h k x e m f (nonzero m (eqb-false m 0 z)) in
       told _ (printable-as (by-kind (t .network) (t .unit) (t .name) (x .taken .side) (t .enters) (t .shows)) (t .text) (t .named ∙ ap (λ n. take n (drop 6 s)) (sym (less 6 (h .length)))) refl)
 
   cancel-side-tells : (h : NameRead) → HeadTold false (drop 6 s) h → (y : SideAnswer) → sideAt Alone (h .letters) (h .a) (h .b) (drop (6 + h .used) s) ≡ y → CancelTells (cancelSide s h y)
@@ -197,7 +156,7 @@ module _ (s : List ℕ) (opens : starts (bytes "<<CORR.") s ≡ true) where
   corrected-tells : (h : NameRead) (x y : Side) (m : ℕ) → (1 ≤ m → Printable (take m s) (take (h .length) (drop 7 s)) (readCorrection (partIn x) (partIn y))) → (b : Bool) → eqb m 0 ≡ b → Tells s (pick b (Refused NoPrint) (Correction (record { length = m; from = 7; to = 7 + h .length; original = x; correcting = y })))
   unfolding pick factIn lengthOf nameIn nameLength nameFrom
   corrected-tells h x y m p true z = nothing NoPrint
-  corrected-tells h x y m p false z = something _ _ refl (printable-as (p (some-number m (eqb-false m 0 z))) refl (ap (λ n. take n (drop 7 s)) (sym (less 7 (h .length)))) refl)
+  corrected-tells h x y m p false z = something _ _ refl (printable-as (p (nonzero m (eqb-false m 0 z))) refl (ap (λ n. take n (drop 7 s)) (sym (less 7 (h .length)))) refl)
 
   module _ (h : NameRead) (k : HeadTold false (drop 7 s) h) (x : SideRead) (e : sideAt Alone (h .letters) (h .a) (h .b) (drop (7 + h .used) s) ≡ Sided x) (was : starts (bytes "WAS.") (drop (7 + h .used + x .taken .used) s) ≡ true) where
     module _ (g : AgainRead) (f : againAt (take (h .length) (drop 7 s)) (drop (7 + h .used + x .taken .used + 4) s) ≡ Again g) where
@@ -250,13 +209,13 @@ module _ (s : List ℕ) (opens : starts (bytes "<<CORR.") s ≡ true) where
 
 announced-printable : (s : List ℕ) (n : ℕ) → Announced (take n s) → Printable (take n s) [] (readAnnouncement (take n s))
 unfolding between
-announced-printable s n (mode m k l u e) = printable-as (by-mode m k (both (sym (is-le 1 k l)) (sym (is-le k 100 u)))) (sym e) refl (ap readAnnouncement (sym e))
-announced-printable s n (level k l u e) = printable-as (by-level k (both (sym (is-le 5000 k l)) (sym (is-le k 100000 u)))) (sym e) refl (ap readAnnouncement (sym e))
+announced-printable s n (mode m k l u e) = printable-as (by-mode m k (and-both (sym (is-le 1 k l)) (sym (is-le k 100 u)))) (sym e) refl (ap readAnnouncement (sym e))
+announced-printable s n (level k l u e) = printable-as (by-level k (and-both (sym (is-le 5000 k l)) (sym (is-le k 100000 u)))) (sym e) refl (ap readAnnouncement (sym e))
 
 announcement-by : (s : List ℕ) (n : ℕ) → n ≡ announcedLength s → (b : Bool) → eqb n 0 ≡ b → Tells s (pick b (Refused NoPrint) (Announcement n))
 unfolding pick factIn lengthOf nameIn nameLength nameFrom
 announcement-by s n e true z = nothing NoPrint
-announcement-by s n e false z = something _ _ refl (announced-printable s n (announced-told s n e (some-number n (eqb-false n 0 z))))
+announcement-by s n e false z = something _ _ refl (announced-printable s n (announced-told s n e (nonzero n (eqb-false n 0 z))))
 
 announcement-tells : (s : List ℕ) → Tells s (announcedBy (announcedLength s))
 unfolding announcedBy
@@ -305,28 +264,10 @@ mark-no-letter : isLetter 60 ≡ false
 unfolding isLetter
 mark-no-letter = refl
 
-letter-unlike : (a c : ℕ) → isLetter c ≡ true → isLetter a ≡ false → eqb a c ≡ false
-letter-unlike a c h k = go (eqb a c) refl
-  where
-    go : (b : Bool) → eqb a c ≡ b → b ≡ false
-    go true e = absurd (false-true (sym k ∙ ap isLetter (eqb-true a c e) ∙ h))
-    go false e = refl
-
 pub not-mark : (p : List ℕ) (s : List ℕ) → heads isLetter s ≡ true → starts (60 ∷ p) s ≡ false
 unfolding starts
 not-mark p [] h = refl
 not-mark p (c ∷ s) h = ap (λ b. b && starts p s) (letter-unlike 60 c h mark-no-letter)
-
-pub mode-opens : (m : Mode) (n : ℕ) (R : List ℕ) → starts (bytes "<<<") (modeText m n ++ R) ≡ true
-unfolding modeText minimumText starts
-mode-opens Normal n R = refl
-mode-opens Dvd n R = refl
-mode-opens Rpo n R = refl
-mode-opens Mpv n R = refl
-
-pub level-opens : (n : ℕ) (R : List ℕ) → starts (bytes "<<<") (levelText n ++ R) ≡ true
-unfolding levelText starts
-level-opens n R = refl
 
 announced-length : (t R : List ℕ) → Announced t → starts (bytes "<<<") (t ++ R) ≡ true → length t ≤ lengthOf (printAt (t ++ R))
 unfolding announcedBy pick lengthOf
@@ -341,14 +282,10 @@ in-range low high n h = (leb-true low n (and-left (leb low n) _ h), leb-true n h
 front-first : (n a v p t r : List ℕ) → ((n ++ a) ++ v ++ p ++ t) ++ r ≡ n ++ (a ++ (v ++ (p ++ (t ++ r))))
 front-first n a v p t r = simp append-assoc
 
-heads-on : (t u : List ℕ) → heads isLetter t ≡ true → heads isLetter (t ++ u) ≡ true
-heads-on [] u h = absurd (false-true h)
-heads-on (c ∷ t) u h = h
-
 module _ (network unit : ℕ) (name : List ℕ) (e : Enterable network unit name) where
   pub trade-letter : (x : Side) (R : List ℕ) → heads isLetter (sideText (nameText true name) network unit true true x ++ R) ≡ true
   unfolding sideText headText opt
-  trade-letter x R = ap (heads isLetter) (front-first (nameText true name) (afterName (x .letters)) (volumeText network unit (x .volume)) (priceText true (x .price)) (tailText x) R) ∙ heads-on (nameText true name) _ (name-head network name (e .plain) true)
+  trade-letter x R = ap (heads isLetter) (front-first (nameText true name) (afterName (x .letters)) (volumeText network unit (x .volume)) (priceText true (x .price)) (tailText x) R) ∙ heads-append isLetter (nameText true name) _ (name-head network name (e .plain) true)
 
   cancel-first : (x : Side) (R : List ℕ) → printAt (cancelText cancelOpening (nameText false name) network unit true true x ++ R) ≡ asCancel (cancelAt (cancelText cancelOpening (nameText false name) network unit true true x ++ R))
   unfolding cancelText starts
@@ -389,8 +326,8 @@ module _ (network unit : ℕ) (name : List ℕ) (e : Enterable network unit name
       rw (correction-first x y R, r .is) (r .far)
 
 print-reaches : {t n : List ℕ} {f : ReadFact} → Printable t n f → (R : List ℕ) → length t ≤ lengthOf (printAt (t ++ R))
-print-reaches (by-mode m n h) R = let k = in-range 1 100 n h in announced-length (modeText m n) R (mode m n (k .0) (k .1) refl) (mode-opens m n R)
-print-reaches (by-level n h) R = let k = in-range 5000 100000 n h in announced-length (levelText n) R (level n (k .0) (k .1) refl) (level-opens n R)
+print-reaches (by-mode m n h) R = let k = in-range 1 100 n h in announced-length (modeText m n) R (mode m n (k .0) (k .1) refl) (mode-starts m n R)
+print-reaches (by-level n h) R = let k = in-range 5000 100000 n h in announced-length (levelText n) R (level n (k .0) (k .1) refl) (level-starts n R)
 print-reaches (by-trade network unit name x e h) R = trade-reached network unit name e x h R
 print-reaches (by-cancel network unit name x e h) R = cancel-reached network unit name e x h R
 print-reaches (by-error network unit name x e h) R = error-reached network unit name e x h R

@@ -1,20 +1,18 @@
 -- A side that one line can print is read whole, at least, where it stands. Assumes nothing.
-use Prim.Native.Nat.{ℕ, zero, suc, _+_, _-_, _*_, _^_, _≤_, _<_}
-use native.Mathlib.Nat.{zero-add}
+use Prim.Native.Nat.{ℕ, _+_, _-_, _^_, _≤_, _<_}
 use native.Mathlib.Omega.{arith}
 use mathlib.Core.Path.{_≡_, refl, sym, ap, _∙_, subst}
-use mathlib.Core.Logic.{_⊎_, inl, inr, ⊎-elim}
+use mathlib.Core.Logic.{_⊎_, ⊎-elim}
 use mathlib.Core.Bool.{Bool, true, false, _&&_, _||_, not}
-use mathlib.Core.List.{List, [], _∷_, _++_, append-assoc, append-nil}
-use lib.Dec.{eqb, leb, ltb}
-use lib.ListN.{length, take, drop, length-append, length-take, length-drop}
+use mathlib.Core.List.{List, [], _∷_, _++_, append-assoc}
+use lib.Dec.{eqb, leb}
+use lib.ListN.{length, drop, length-append}
 use lib.Seq.{drop-drop}
 use Rattle.text.specs.Bytes.{bytes}
 use Rattle.text.specs.Pick.{pick, opt, among}
 use Rattle.text.proofs.Texts.{and-left, and-right}
-use Rattle.text.proofs.Tests.{is-lt, is-le}
 use Rattle.rules.specs.Columns.{between}
-use Rattle.rules.specs.Price.{priceText, units}
+use Rattle.rules.specs.Price.{priceText}
 use Rattle.rules.specs.Volume.{volumeText}
 use Rattle.rules.specs.Conditions.{onNetwork}
 use Rattle.rules.specs.Side.{tailText}
@@ -24,45 +22,41 @@ use Rattle.rules.specs.declared.Price.{Price}
 use Rattle.rules.specs.declared.Side.{Side}
 use Rattle.prices.specs.Sound.{Sound}
 use Rattle.named.specs.Cut.{oneSold}
-use Rattle.named.proofs.Root.{false-true, both, either}
+use Rattle.named.proofs.Root.{false-true, either}
 use Rattle.compose.specs.Shown.{letterCount, oneDelivery, showable, Showable}
 use Rattle.scan.specs.declared.PriceRead.{PriceRead}
 use Rattle.scan.specs.declared.PriceAnswer.{PriceAnswer}
 use Rattle.scan.specs.declared.PriceAnswer.the-variants.{Priced, NoPrice}
 use Rattle.volumescan.specs.declared.Volume.{Volume}
-use Rattle.volumescan.specs.declared.Volume.the-variants.{Unsaid, Hundreds, Tens, Shares}
+use Rattle.volumescan.specs.declared.Volume.the-variants.{Unsaid}
 use Rattle.volumescan.specs.declared.VolumeRead.{VolumeRead}
 use Rattle.volumescan.specs.declared.VolumeAnswer.{VolumeAnswer}
 use Rattle.volumescan.specs.declared.VolumeAnswer.the-variants.{Said, NoVolume}
 use Rattle.scan.specs.Price.{priceAt}
-use Rattle.volumescan.specs.Volume.{volumeAt, sharesIn, figuresOf, saidText, explains, explainsBoth, explained}
-use Rattle.scan.proofs.Text.{PriceFound, price-found}
-use Rattle.volumescan.proofs.Shown.{VolumeFound, volume-found, explained-text, explained-some, shares-small}
+use Rattle.volumescan.specs.Volume.{volumeAt, explains, explainsBoth, explained}
 use Rattle.heading.specs.Head.{lettersAfter}
 use Rattle.tails.specs.declared.Taken.{Taken}
-use Rattle.tails.specs.Tail.{plusCash, plusAverage, plusStopped, plusSeller, plusRule, plusPrevious, sideWith as tails·sideWith, cashAt, averageAt, stoppedAt, sellerAt, ruleAt, previousAt, afterPriceAt, atEndAt, tailAt}
-use Rattle.tails.proofs.Standing.{cash-keeps, average-keeps, stopped-keeps, seller-keeps, rule-keeps, Bare, tail-text, tail-from, tail-within}
-use Rattle.tails.proofs.Lawful.{one as tails·one, letterCount as tails·letterCount, Lawful, bare-lawful, tail-lawful}
-use Rattle.tails.proofs.Kept.{previous-keeps, Explained, tail-explained, tail-volume, tail-price, tail-o, tail-s, tail-l, tail-n, tail-m, tail-c}
+use Rattle.tails.specs.Tail.{tailAt}
 use Rattle.sideread.specs.declared.Beside.{Beside}
-use Rattle.sideread.specs.declared.Beside.the-variants.{Alone, With}
+use Rattle.sideread.specs.declared.Beside.the-variants.{Alone}
 use Rattle.sideread.specs.declared.SideRead.{SideRead}
 use Rattle.sideread.specs.declared.SideAnswer.{SideAnswer}
 use Rattle.sideread.specs.declared.SideAnswer.the-variants.{Sided, NoSide}
 use Rattle.sideread.specs.Side.{headCount, beside, sidedBy, sideWith, saidSide, orElse, sideAt}
 use borrow.Author.Tests.{eqb-true, leb-true, ltb-true, not-true}
-use Rattle.text.specs.Reading.{starts, heads, isDigit, dotDigit}
+use Rattle.text.specs.Reading.{heads, isDigit, dotDigit}
+use Rattle.text.proofs.Booleans.{implied, and-off, or-true, and-both}
 use Rattle.rules.specs.Conditions.{sellerText, previousText, afterPrice, atEnd}
 use Rattle.prices.proofs.PriceBack.{NoMore}
 use Rattle.scan.proofs.PriceBack.{PriceAgain, price-again}
 use Rattle.volumescan.proofs.VolumeBack.{VolumeAgain, volume-again, volume-empty}
-use Rattle.nameable.proofs.Counts.{drop-front, or-true}
+use Rattle.nameable.proofs.Counts.{drop-front}
 use Rattle.compose.specs.Shown.{one}
 use Rattle.longest.proofs.Side.{beginning, sideIn, no-side}
 use Rattle.longest.proofs.Tail.{tail-forward, fromAverage, sizeAverage, May, covers-tail}
 use Rattle.longest.proofs.Figures.{volume-beyond}
 
--- ---- one unit explains both
+-- ---- one unit explains and-both
 
 both-explain : (network unit : ℕ) (x y : Volume) → explains network unit x ≡ true → explains network unit y ≡ true → explainsBoth network unit x y ≡ true
 unfolding explainsBoth
@@ -145,19 +139,11 @@ module _ (d : ℕ) (q : Price) (R : List ℕ) where
 
 -- ---- what one line allows
 
-implied : (a b : Bool) → a ≡ true → (not a || b) ≡ true → b ≡ true
-implied true b e h = h
-implied false b e h = absurd (false-true e)
-
 two-networks : (n : ℕ) → eqb n 65 ≡ true → eqb n 66 ≡ true → ⊥
 two-networks n h k = omega (eqb-true n 65 h, eqb-true n 66 k, arith)
 
 days-in : (d : ℕ) → (leb 1 d && leb d 999) ≡ true → (1 ≤ d) × (d < 10 ^ 3)
 days-in d h = (leb-true 1 d (and-left (leb 1 d) _ h), omega (leb-true d 999 (and-right (leb 1 d) _ h), arith))
-
-pub off-first : (a b : Bool) → (a && b) ≡ false → b ≡ true → a ≡ false
-off-first true b h e = absurd (false-true (sym h ∙ e))
-off-first false b h e = refl
 
 pub none-one : one false ≡ 0
 unfolding pick
@@ -245,7 +231,7 @@ module _ (network : ℕ) (x : Side) (h : Showable network x) where
     may p = record {
       few = omega (shown-few, ap one shown-n, ap one shown-c, none-one, arith);
       days = shown-days;
-      no-next = λ e. off-first (x .letters .m) (x .letters .r) apart-mr e;
+      no-next = λ e. and-off (x .letters .m) (x .letters .r) apart-mr e;
       no-cash = λ e. refl;
       rule-on-a = λ e. ap (λ t. pick t a b) (sym (rule-network e)) ∙ f;
       previous-on-b = λ e. ap (λ n. pick (eqb n 65) a b) (sym (eqb-true network 66 (previous-network e))) ∙ f;
@@ -267,7 +253,7 @@ module _ (network : ℕ) (x : Side) (h : Showable network x) where
       stopped-at m =
           let e = (k .exact m) .0 in
           let d : drop (used + k .got .used) part ≡ tailText x ++ R = ap (λ n. drop (used + n) part) e ∙ sym (drop-drop (length (priceText true (x .price))) used part) ∙ ap (drop (length (priceText true (x .price)))) at ∙ drop-front (priceText true (x .price)) (tailText x ++ R) in
-          let c = covers-tail part (beginning L v used a b (k .got)) (x .letters .k) (x .letters .b) (x .letters .t) (x .letters .r) (x .days) (x .letters .j) (x .letters .g) (x .previous) R (d ∙ tail-parts x R shown-c) (may (k .got)) (λ z. off-first (x .letters .m) (x .letters .k) apart-mk z) apart-kr in
+          let c = covers-tail part (beginning L v used a b (k .got)) (x .letters .k) (x .letters .b) (x .letters .t) (x .letters .r) (x .days) (x .letters .j) (x .letters .g) (x .previous) R (d ∙ tail-parts x R shown-c) (may (k .got)) (λ z. and-off (x .letters .m) (x .letters .k) apart-mk z) apart-kr in
           omega (c, e, tail-size x shown-c, arith)
 
       no-tail : length (tailText x) ≡ 0 → used + (length (priceText true (x .price)) + length (tailText x)) ≤ (tailAt part st) .used
@@ -283,11 +269,11 @@ module _ (network : ℕ) (x : Side) (h : Showable network x) where
 
 on-65 : (network : ℕ) → network ≡ 65 → (a b : Bool) (v : Volume) → flagOf network a b ≡ true → explained network v v ≡ true → flagOf network (a && explained 65 v v) (b && explained 66 v v) ≡ true
 unfolding flagOf pick
-on-65 network q a b v f e = ap (λ n. pick (eqb n 65) (a && explained 65 v v) (b && explained 66 v v)) q ∙ both (ap (λ n. pick (eqb n 65) a b) (sym q) ∙ f) (ap (λ n. explained n v v) (sym q) ∙ e)
+on-65 network q a b v f e = ap (λ n. pick (eqb n 65) (a && explained 65 v v) (b && explained 66 v v)) q ∙ and-both (ap (λ n. pick (eqb n 65) a b) (sym q) ∙ f) (ap (λ n. explained n v v) (sym q) ∙ e)
 
 on-66 : (network : ℕ) → network ≡ 66 → (a b : Bool) (v : Volume) → flagOf network a b ≡ true → explained network v v ≡ true → flagOf network (a && explained 65 v v) (b && explained 66 v v) ≡ true
 unfolding flagOf pick
-on-66 network q a b v f e = ap (λ n. pick (eqb n 65) (a && explained 65 v v) (b && explained 66 v v)) q ∙ both (ap (λ n. pick (eqb n 65) a b) (sym q) ∙ f) (ap (λ n. explained n v v) (sym q) ∙ e)
+on-66 network q a b v f e = ap (λ n. pick (eqb n 65) (a && explained 65 v v) (b && explained 66 v v)) q ∙ and-both (ap (λ n. pick (eqb n 65) a b) (sym q) ∙ f) (ap (λ n. explained n v v) (sym q) ∙ e)
 
 pub still : (network : ℕ) (a b : Bool) (v : Volume) → isNetwork network ≡ true → flagOf network a b ≡ true → explained network v v ≡ true → flagOf network (a && explained 65 v v) (b && explained 66 v v) ≡ true
 unfolding isNetwork among flagOf pick
@@ -308,11 +294,11 @@ one-flag network a b h = one-picked (eqb network 65) a b h
 -- the same beside another volume
 with-65 : (first : Beside) (network : ℕ) → network ≡ 65 → (a b : Bool) (v : Volume) → flagOf network a b ≡ true → explained network (beside first v) v ≡ true → flagOf network (a && explained 65 (beside first v) v) (b && explained 66 (beside first v) v) ≡ true
 unfolding flagOf pick
-with-65 first network q a b v f e = ap (λ n. pick (eqb n 65) (a && explained 65 (beside first v) v) (b && explained 66 (beside first v) v)) q ∙ both (ap (λ n. pick (eqb n 65) a b) (sym q) ∙ f) (ap (λ n. explained n (beside first v) v) (sym q) ∙ e)
+with-65 first network q a b v f e = ap (λ n. pick (eqb n 65) (a && explained 65 (beside first v) v) (b && explained 66 (beside first v) v)) q ∙ and-both (ap (λ n. pick (eqb n 65) a b) (sym q) ∙ f) (ap (λ n. explained n (beside first v) v) (sym q) ∙ e)
 
 with-66 : (first : Beside) (network : ℕ) → network ≡ 66 → (a b : Bool) (v : Volume) → flagOf network a b ≡ true → explained network (beside first v) v ≡ true → flagOf network (a && explained 65 (beside first v) v) (b && explained 66 (beside first v) v) ≡ true
 unfolding flagOf pick
-with-66 first network q a b v f e = ap (λ n. pick (eqb n 65) (a && explained 65 (beside first v) v) (b && explained 66 (beside first v) v)) q ∙ both (ap (λ n. pick (eqb n 65) a b) (sym q) ∙ f) (ap (λ n. explained n (beside first v) v) (sym q) ∙ e)
+with-66 first network q a b v f e = ap (λ n. pick (eqb n 65) (a && explained 65 (beside first v) v) (b && explained 66 (beside first v) v)) q ∙ and-both (ap (λ n. pick (eqb n 65) a b) (sym q) ∙ f) (ap (λ n. explained n (beside first v) v) (sym q) ∙ e)
 
 pub still-with : (first : Beside) (network : ℕ) (a b : Bool) (v : Volume) → isNetwork network ≡ true → flagOf network a b ≡ true → explained network (beside first v) v ≡ true → flagOf network (a && explained 65 (beside first v) v) (b && explained 66 (beside first v) v) ≡ true
 unfolding isNetwork among

@@ -1,70 +1,48 @@
 -- A side that one line can print, with its end behind it, is read exactly, or with a previous last more. Assumes nothing.
-use Prim.Native.Nat.{ℕ, zero, suc, _+_, _-_, _*_, _^_, _≤_, _<_}
-use native.Mathlib.Nat.{zero-add}
+use Prim.Native.Nat.{ℕ, _+_, _-_, _≤_, _<_}
 use native.Mathlib.Omega.{arith}
 use mathlib.Core.Path.{_≡_, refl, sym, ap, _∙_, subst}
-use mathlib.Core.Logic.{_⊎_, inl, inr, ⊎-elim}
-use mathlib.Core.Bool.{Bool, true, false, _&&_, _||_, not}
-use mathlib.Core.List.{List, [], _∷_, _++_, append-assoc, append-nil}
-use lib.Dec.{eqb, leb, ltb}
-use lib.ListN.{length, take, drop, length-append, length-take, length-drop}
+use mathlib.Core.Bool.{Bool, true, false, _&&_, _||_}
+use mathlib.Core.List.{List, [], _∷_, _++_}
+use lib.Dec.{eqb}
+use lib.ListN.{length, drop}
 use lib.Seq.{drop-drop}
 use Rattle.text.specs.Bytes.{bytes}
-use Rattle.text.specs.Pick.{pick, opt, among}
-use Rattle.text.proofs.Texts.{and-left, and-right}
-use Rattle.text.proofs.Tests.{is-lt, is-le}
-use Rattle.rules.specs.Columns.{between}
-use Rattle.rules.specs.Price.{priceText, units}
+use Rattle.text.specs.Pick.{pick, opt}
+use Rattle.rules.specs.Price.{priceText}
 use Rattle.rules.specs.Volume.{volumeText}
-use Rattle.rules.specs.Conditions.{onNetwork}
 use Rattle.rules.specs.Side.{tailText}
-use Rattle.rules.specs.Line.{isPrice, isUnit, isNetwork}
+use Rattle.rules.specs.Line.{isUnit, isNetwork}
 use Rattle.rules.specs.declared.Letters.{Letters}
 use Rattle.rules.specs.declared.Price.{Price}
 use Rattle.rules.specs.declared.Side.{Side}
-use Rattle.prices.specs.Sound.{Sound}
-use Rattle.named.specs.Cut.{oneSold}
-use Rattle.named.proofs.Root.{false-true, both, either}
-use Rattle.compose.specs.Shown.{letterCount, oneDelivery, showable, Showable}
+use Rattle.compose.specs.Shown.{letterCount, Showable}
 use Rattle.scan.specs.declared.PriceRead.{PriceRead}
-use Rattle.scan.specs.declared.PriceAnswer.{PriceAnswer}
-use Rattle.scan.specs.declared.PriceAnswer.the-variants.{Priced, NoPrice}
 use Rattle.volumescan.specs.declared.Volume.{Volume}
-use Rattle.volumescan.specs.declared.Volume.the-variants.{Unsaid, Hundreds, Tens, Shares}
-use Rattle.volumescan.specs.declared.VolumeRead.{VolumeRead}
-use Rattle.volumescan.specs.declared.VolumeAnswer.{VolumeAnswer}
-use Rattle.volumescan.specs.declared.VolumeAnswer.the-variants.{Said, NoVolume}
-use Rattle.scan.specs.Price.{priceAt}
-use Rattle.volumescan.specs.Volume.{volumeAt, sharesIn, figuresOf, saidText, explains, explainsBoth, explained}
-use Rattle.scan.proofs.Text.{PriceFound, price-found}
-use Rattle.volumescan.proofs.Shown.{VolumeFound, volume-found, explained-text, explained-some, shares-small}
+use Rattle.volumescan.specs.declared.Volume.the-variants.{Unsaid}
+use Rattle.volumescan.specs.declared.VolumeAnswer.the-variants.{NoVolume}
+use Rattle.volumescan.specs.Volume.{volumeAt, explains, explained}
 use Rattle.heading.specs.Head.{lettersAfter}
-use Rattle.tails.specs.declared.Taken.{Taken}
-use Rattle.tails.specs.Tail.{plusCash, plusAverage, plusStopped, plusSeller, plusRule, plusPrevious, sideWith as tails·sideWith, cashAt, averageAt, stoppedAt, sellerAt, ruleAt, previousAt, afterPriceAt, atEndAt, tailAt}
-use Rattle.tails.proofs.Standing.{cash-keeps, average-keeps, stopped-keeps, seller-keeps, rule-keeps, Bare, tail-text, tail-from, tail-within}
-use Rattle.tails.proofs.Lawful.{one as tails·one, letterCount as tails·letterCount, Lawful, bare-lawful, tail-lawful}
-use Rattle.tails.proofs.Kept.{previous-keeps, Explained, tail-explained, tail-volume, tail-price, tail-o, tail-s, tail-l, tail-n, tail-m, tail-c}
+use Rattle.tails.specs.Tail.{tailAt}
 use Rattle.sideread.specs.declared.Beside.{Beside}
-use Rattle.sideread.specs.declared.Beside.the-variants.{Alone, With}
 use Rattle.sideread.specs.declared.SideRead.{SideRead}
 use Rattle.sideread.specs.declared.SideAnswer.{SideAnswer}
-use Rattle.sideread.specs.declared.SideAnswer.the-variants.{Sided, NoSide}
+use Rattle.sideread.specs.declared.SideAnswer.the-variants.{Sided}
 use Rattle.sideread.specs.Side.{headCount, beside, sidedBy, sideWith, saidSide, orElse, sideAt}
-use borrow.Author.Tests.{eqb-true, leb-true, ltb-true, not-true}
-use Rattle.text.specs.Reading.{starts, heads, isDigit, dotDigit}
-use Rattle.rules.specs.Conditions.{sellerText, previousText, afterPrice, atEnd}
+use borrow.Author.Tests.{eqb-true}
+use Rattle.text.specs.Reading.{heads, isDigit, dotDigit}
+use Rattle.text.proofs.Booleans.{and-off}
+use Rattle.rules.specs.Conditions.{sellerText, previousText}
 use Rattle.prices.proofs.PriceBack.{NoMore}
-use Rattle.scan.proofs.PriceBack.{PriceAgain, price-again}
-use Rattle.volumescan.proofs.VolumeBack.{VolumeAgain, volume-again, volume-empty}
-use Rattle.nameable.proofs.Counts.{drop-front, or-true}
+use Rattle.scan.proofs.PriceBack.{price-again}
+use Rattle.volumescan.proofs.VolumeBack.{volume-again, volume-empty}
+use Rattle.nameable.proofs.Counts.{drop-front}
 use Rattle.compose.specs.Shown.{one}
-use Rattle.longest.proofs.Side.{beginning, sideIn, no-side}
-use Rattle.longest.proofs.Tail.{tail-forward, fromAverage, sizeAverage, May, covers-tail}
-use Rattle.longest.proofs.Figures.{volume-beyond}
-use Rattle.rules.specs.Tape.{isUpper}
+use Rattle.longest.proofs.Side.{beginning}
+use Rattle.longest.proofs.Tail.{fromAverage}
 use Rattle.longest.proofs.Figures.{unmarked, unmarked-tail, no-volume}
-use Rattle.longest.proofs.TailExact.{Ended, Is, Begins, TailEnd, ended, more, tail-ends, lettersBefore, setG}
-use Rattle.longest.proofs.SideBack.{some-not-none, none-one, unit-explains, tail-parts, tail-size, still-with, one-flag, off-first, flagOf, some-price, sound-price, shown-n, shown-c, shown-few, shown-sold, apart-mk, apart-mr, apart-kr, apart-jg, rule-network, previous-network, shown-days, shown-previous}
+use Rattle.longest.proofs.TailExact.{Ended, Begins, TailEnd, ended, more, tail-ends, lettersBefore}
+use Rattle.longest.proofs.SideBack.{some-not-none, none-one, unit-explains, tail-parts, tail-size, still-with, one-flag, flagOf, some-price, sound-price, shown-n, shown-c, shown-few, apart-mk, apart-mr, apart-kr, apart-jg, rule-network, previous-network, shown-days, shown-previous}
 
 -- what stands behind a side that ends: no condition, no digit, no figure dot before one, and no mark behind figures
 pub record Closes (R : List ℕ) : Type 0 where
@@ -129,8 +107,8 @@ module _ (first : Beside) (network unit : ℕ) (x : Side) (h : Showable network 
     text = d ∙ tail-parts x R (shown-c network x h);
     few = omega (shown-few network x h, ap one (shown-n network x h), ap one (shown-c network x h), none-one, arith);
     days = shown-days network x h;
-    cash-no-next = λ e. off-first (x .letters .m) (x .letters .k) (apart-mk network x h) e;
-    seller-no-next = λ e. off-first (x .letters .m) (x .letters .r) (apart-mr network x h) e;
+    cash-no-next = λ e. and-off (x .letters .m) (x .letters .k) (apart-mk network x h) e;
+    seller-no-next = λ e. and-off (x .letters .m) (x .letters .r) (apart-mr network x h) e;
     seller-no-cash = apart-kr network x h;
     rule-on-a = λ e. ap (λ t. pick t y n) (sym (rule-network network x h e)) ∙ g;
     previous-on-b = λ e. ap (λ k. pick (eqb k 65) y n) (sym (eqb-true network 66 (previous-network network x h e))) ∙ g;

@@ -1,83 +1,52 @@
 -- What the reader answers is a normal print of that length, with that name and those facts. Assumes nothing.
-use Prim.Native.Nat.{ℕ, zero, suc, _+_, _-_, _*_, _^_, _≤_, _<_}
-use native.Mathlib.Nat.{zero-add}
+use Prim.Native.Nat.{ℕ, _+_, _-_, _≤_}
 use native.Mathlib.Omega.{arith}
-use mathlib.Core.Path.{_≡_, refl, sym, ap, _∙_, subst}
-use mathlib.Core.Logic.{_⊎_, inl, inr, ⊎-elim}
-use mathlib.Core.Bool.{Bool, true, false, _&&_, _||_, not}
-use mathlib.Core.List.{List, [], _∷_, _++_, append-assoc, append-nil}
-use lib.Dec.{eqb, leb, ltb}
+use mathlib.Core.Path.{_≡_, refl, sym, ap, _∙_}
+use mathlib.Core.Logic.{_⊎_, ⊎-elim}
+use mathlib.Core.Bool.{Bool, true, false, _||_, not}
+use mathlib.Core.List.{List, _++_, append-assoc, append-nil}
+use lib.Dec.{eqb}
 use borrow.Author.Tests.{eqb-true}
-use mathlib.Core.Option.{Option, none, some}
-use lib.ListN.{length, take, drop, length-append, length-take, length-drop}
+use mathlib.Core.Option.{some}
+use lib.ListN.{length, take, drop}
 use lib.Seq.{drop-drop}
 use Rattle.text.specs.Bytes.{bytes}
 use Rattle.text.specs.Pick.{pick, opt, among}
-use Rattle.text.proofs.Texts.{and-left, and-right}
-use Rattle.text.proofs.Tests.{is-lt, is-le}
-use Rattle.rules.specs.Columns.{between}
 use Rattle.rules.specs.Price.{priceText, units}
 use Rattle.rules.specs.Volume.{volumeText}
-use Rattle.rules.specs.Conditions.{onNetwork}
 use Rattle.rules.specs.Side.{tailText}
-use Rattle.rules.specs.Line.{isPrice, isUnit, isNetwork}
+use Rattle.rules.specs.Line.{isNetwork}
 use Rattle.rules.specs.declared.Letters.{Letters}
-use Rattle.rules.specs.declared.Price.{Price}
 use Rattle.rules.specs.declared.Side.{Side}
-use Rattle.prices.specs.Sound.{Sound}
 use Rattle.named.specs.Cut.{oneSold}
 use Rattle.named.proofs.Root.{false-true, either}
-use Rattle.compose.specs.Shown.{letterCount, oneDelivery, showable, Showable}
-use Rattle.scan.specs.declared.PriceRead.{PriceRead}
-use Rattle.scan.specs.declared.PriceAnswer.{PriceAnswer}
-use Rattle.scan.specs.declared.PriceAnswer.the-variants.{Priced, NoPrice}
-use Rattle.volumescan.specs.declared.Volume.{Volume}
-use Rattle.volumescan.specs.declared.Volume.the-variants.{Unsaid, Hundreds, Tens, Shares}
-use Rattle.volumescan.specs.declared.VolumeRead.{VolumeRead}
-use Rattle.volumescan.specs.declared.VolumeAnswer.{VolumeAnswer}
-use Rattle.volumescan.specs.declared.VolumeAnswer.the-variants.{Said, NoVolume}
-use Rattle.scan.specs.Price.{priceAt}
-use Rattle.volumescan.specs.Volume.{volumeAt, sharesIn, figuresOf, saidText, explains, explainsBoth, explained}
-use Rattle.scan.proofs.Text.{PriceFound, price-found}
-use Rattle.volumescan.proofs.Shown.{VolumeFound, volume-found, explained-text, explained-some, shares-small}
+use Rattle.compose.specs.Shown.{Showable}
+use Rattle.volumescan.specs.Volume.{saidText, explains}
+use Rattle.volumescan.proofs.Shown.{explained-text}
 use Rattle.heading.specs.Head.{lettersAfter}
-use Rattle.tails.specs.declared.Taken.{Taken}
-use Rattle.tails.specs.Tail.{plusCash, plusAverage, plusStopped, plusSeller, plusRule, plusPrevious, sideWith as tails·sideWith, cashAt, averageAt, stoppedAt, sellerAt, ruleAt, previousAt, afterPriceAt, atEndAt, tailAt}
-use Rattle.tails.proofs.Standing.{cash-keeps, average-keeps, stopped-keeps, seller-keeps, rule-keeps, Bare, tail-text, tail-from, tail-within}
-use Rattle.tails.proofs.Lawful.{one as tails·one, letterCount as tails·letterCount, Lawful, bare-lawful, tail-lawful}
-use Rattle.tails.proofs.Kept.{previous-keeps, Explained, tail-explained, tail-volume, tail-price, tail-o, tail-s, tail-l, tail-n, tail-m, tail-c}
 use Rattle.sideread.specs.declared.Beside.{Beside}
-use Rattle.sideread.specs.declared.Beside.the-variants.{Alone, With}
+use Rattle.sideread.specs.declared.Beside.the-variants.{Alone}
 use Rattle.sideread.specs.declared.SideRead.{SideRead}
-use Rattle.sideread.specs.declared.SideAnswer.{SideAnswer}
-use Rattle.sideread.specs.declared.SideAnswer.the-variants.{Sided, NoSide}
-use Rattle.sideread.specs.Side.{headCount, beside, sidedBy, sideWith, saidSide, orElse, sideAt}
-use Rattle.text.specs.Pick.{all}
+use Rattle.sideread.specs.declared.SideAnswer.the-variants.{Sided}
+use Rattle.sideread.specs.Side.{sideAt}
 use Rattle.text.specs.Reading.{starts}
 use Rattle.rules.specs.Names.{nameText}
 use Rattle.rules.specs.Conditions.{afterName}
 use Rattle.rules.specs.Side.{headText, sideText}
 use Rattle.rules.specs.Shown.{conditionsOf}
-use Rattle.rules.specs.NormalPrint.{ReadFact, readTrade}
+use Rattle.rules.specs.NormalPrint.{readTrade}
 use Rattle.compose.specs.Shown.{Enterable}
-use Rattle.compose.specs.Printable.{partIn, Printable, by-trade}
+use Rattle.compose.specs.Printable.{Printable, by-trade}
 use Rattle.rules.specs.Correction.{endPair, cancelText}
-use Rattle.volumescan.proofs.Shown.{starts-take}
+use Rattle.text.proofs.Parts.{starts-front}
 use Rattle.heading.specs.Name.{nameOn}
-use Rattle.heading.specs.Head.{headAt}
 use Rattle.heading.specs.declared.NameRead.{NameRead}
-use Rattle.heading.specs.declared.NameAnswer.{NameAnswer}
-use Rattle.heading.specs.declared.NameAnswer.the-variants.{Named, NoName}
-use Rattle.nameable.proofs.Built.{Built, name-built}
-use Rattle.nameable.proofs.Head.{HeadTold, head-told}
-use Rattle.reader.specs.declared.PrintRead.{PrintRead}
-use Rattle.reader.specs.declared.ReadAnswer.{ReadAnswer}
-use Rattle.reader.specs.declared.ReadAnswer.the-variants.{Announcement, Trade, Cancel, Error, Correction, Refused}
-use Rattle.rules.specs.declared.Refusal.the-variants.{NoPrint}
-use Rattle.reader.specs.Read.{tradeSide, tradeHead, tradeAt, endAt}
+use Rattle.nameable.proofs.Built.{name-built}
+use Rattle.nameable.proofs.Head.{HeadTold}
+use Rattle.reader.specs.Read.{endAt}
 use Rattle.normal.proofs.Views.{printable-as}
-use Rattle.longest.proofs.Side.{Unit, Headed, SideTold, side-told, two-fronts}
-use Rattle.longest.proofs.Shows.{Explains, explains-side}
+use Rattle.longest.proofs.Side.{Headed, SideTold, side-told, two-fronts}
+use Rattle.longest.proofs.Shows.{explains-side}
 
 -- ---- heads
 
@@ -150,7 +119,7 @@ module _ (s : List ℕ) (h : NameRead) (k : HeadTold true s h) (x : SideRead) (e
 end-cases : (s : List ℕ) (n m : ℕ) (g t : Bool) → starts (bytes ">>") (drop n s) ≡ t → pick g n (pick t (n + 2) 0) ≡ m → 1 ≤ m → take m s ≡ take n s ++ opt (not g) (bytes ">>")
 unfolding pick opt
 end-cases s n m true t k e o = ap (λ i. take i s) (sym e) ∙ sym (append-nil (take n s))
-end-cases s n m false true k e o = ap (λ i. take i s) (sym e) ∙ two-fronts s n 2 ∙ ap (λ z. take n s ++ z) (starts-take (bytes ">>") (drop n s) k)
+end-cases s n m false true k e o = ap (λ i. take i s) (sym e) ∙ two-fronts s n 2 ∙ ap (λ z. take n s ++ z) (starts-front (bytes ">>") (drop n s) k)
 end-cases s n m false false k e o = absurd (omega (e, o, arith))
 
 -- the end pair, or the closing G pair that serves
@@ -165,7 +134,7 @@ module _ (opening s : List ℕ) (six : length opening ≡ 6) (starts-there : sta
   front-of : take (6 + h .used + x .taken .used) s ≡ opening ++ ((take (h .length) (drop 6 s) ++ afterName (h .letters)) ++ take (x .taken .used) (drop (6 + h .used) s))
   front-of =
       two-fronts s (6 + h .used) (x .taken .used)
-      ∙ ap (λ z. z ++ take (x .taken .used) (drop (6 + h .used) s)) (two-fronts s 6 (h .used) ∙ ap (λ z. z ++ take (h .used) (drop 6 s)) (ap (λ n. take n s) (sym six) ∙ starts-take opening s starts-there) ∙ ap (λ z. opening ++ z) (k .text))
+      ∙ ap (λ z. z ++ take (x .taken .used) (drop (6 + h .used) s)) (two-fronts s 6 (h .used) ∙ ap (λ z. z ++ take (h .used) (drop 6 s)) (ap (λ n. take n s) (sym six) ∙ starts-front opening s starts-there) ∙ ap (λ z. opening ++ z) (k .text))
       ∙ append-assoc opening (take (h .length) (drop 6 s) ++ afterName (h .letters)) (take (x .taken .used) (drop (6 + h .used) s))
 
   -- the security, the side and the text of what is read

@@ -1,29 +1,27 @@
 -- The conditions of a side, taken from a tape on which they stand: all of them at least. Assumes nothing.
-use Prim.Native.Nat.{ℕ, zero, suc, _+_, _-_, _*_, _^_, _≤_, _<_}
+use Prim.Native.Nat.{ℕ, _+_, _-_, _^_, _≤_, _<_}
 use native.Mathlib.Omega.{arith}
-use mathlib.Core.Path.{_≡_, refl, sym, ap, _∙_, subst}
-use mathlib.Core.Logic.{_⊎_, inl, inr, ⊎-elim}
-use mathlib.Core.Bool.{Bool, true, false, _&&_, _||_, not}
-use mathlib.Core.List.{List, [], _∷_, _++_, append-assoc, append-nil}
-use lib.Dec.{eqb, leb, ltb}
-use lib.ListN.{length, take, drop, length-append}
+use mathlib.Core.Path.{_≡_, refl, sym, ap, _∙_}
+use mathlib.Core.Bool.{Bool, true, false, _&&_, not}
+use mathlib.Core.List.{List, [], _∷_, _++_, append-assoc}
+use lib.Dec.{eqb, ltb}
+use lib.ListN.{length, drop, length-append}
 use lib.Seq.{drop-drop}
+use Rattle.conditions.proofs.TailBack.{pair-ends}
 use Rattle.text.specs.Bytes.{bytes}
 use Rattle.text.specs.Pick.{pick, opt}
 use Rattle.text.specs.Decimal.{decimal, places}
 use Rattle.text.proofs.Decimal.{decimal-places, length-decimal, some-digits}
-use Rattle.text.specs.Reading.{starts, heads, isDigit, dotDigit}
+use Rattle.text.specs.Reading.{starts, heads, isDigit}
 use Rattle.text.proofs.Reading.{starts-append}
 use Rattle.text.proofs.Tests.{is-lt, is-ne}
-use Rattle.text.proofs.Texts.{and-left, and-right}
-use Rattle.nameable.proofs.Counts.{drop-front, take-front}
+use Rattle.text.proofs.Texts.{and-right}
+use Rattle.nameable.proofs.Counts.{drop-front}
 use Rattle.rules.specs.Price.{priceText, units}
 use Rattle.rules.specs.Conditions.{sellerText, previousText}
-use Rattle.rules.specs.declared.Letters.{Letters}
 use Rattle.rules.specs.declared.Price.{Price}
 use Rattle.rules.specs.declared.Side.{Side}
 use Rattle.prices.specs.Sound.{Sound}
-use Rattle.prices.proofs.PriceBack.{NoMore}
 use Rattle.named.proofs.Root.{false-true}
 use Rattle.normal.proofs.Count.{flip}
 use Rattle.compose.specs.Shown.{one}
@@ -32,11 +30,11 @@ use Rattle.scan.specs.declared.PriceRead.{PriceRead}
 use Rattle.scan.specs.declared.PriceAnswer.{PriceAnswer}
 use Rattle.scan.specs.declared.PriceAnswer.the-variants.{Priced, NoPrice}
 use Rattle.scan.specs.Digits.{digitsOnto, digitsAt, zeroFirst}
-use Rattle.scan.proofs.Bounds.{Counted, digits-counted}
+use Rattle.scan.proofs.Bounds.{digits-counted}
 use Rattle.scan.specs.Price.{priceAt}
-use Rattle.scan.proofs.PriceBack.{onto-stop, onto-places, decimal-below, decimal-first, PriceAgain, price-again}
+use Rattle.scan.proofs.PriceBack.{onto-stop, onto-places, decimal-below, decimal-first, price-again}
 use Rattle.tails.specs.declared.Taken.{Taken}
-use Rattle.tails.specs.Tail.{plusCash, plusAverage, plusStopped, plusSeller, plusRule, plusPrevious, sideWith, further, takesCash, cashAt, takesAverage, averageAt, takesStopped, stoppedAt, sellerDays, sellerBy, sellerAt, takesRule, ruleAt, closedBy, previousIn, previousBy, previousAt, afterPriceAt, atEndAt, tailAt}
+use Rattle.tails.specs.Tail.{plusCash, plusAverage, plusStopped, plusSeller, plusRule, sideWith, further, takesCash, cashAt, takesAverage, averageAt, takesStopped, stoppedAt, sellerDays, sellerBy, sellerAt, takesRule, ruleAt, closedBy, previousIn, previousBy, previousAt, afterPriceAt, atEndAt, tailAt}
 
 -- ---- what is left of a tail, from each condition on, before the rest R
 
@@ -339,10 +337,6 @@ module _ (s : List ℕ) (st : Taken) where
 
 -- ---- the previous last
 
-pair-no-more : (s : List ℕ) → NoMore (bytes ">>" ++ s)
-unfolding isDigit dotDigit
-pair-no-more s = record { digit = refl; dot = refl }
-
 pub record PreviousAgain (q : Price) (R : List ℕ) : Type 0 where
   pub got : PriceRead
   pub read : previousIn (previousText q ++ R) ≡ Priced got
@@ -354,7 +348,7 @@ unfolding previousIn previousText closedBy starts pick
 previous-again q R h o =
     let t = priceText true q in
     let a = price-again q h o (bytes ">>" ++ R) in
-    let x = a .exact (pair-no-more R) in
+    let x = a .exact (pair-ends R) in
     let e : ((bytes ">>PREV.LAST" ++ t) ++ bytes ">>") ++ R ≡ bytes ">>PREV.LAST" ++ (t ++ (bytes ">>" ++ R)) = append-assoc (bytes ">>PREV.LAST" ++ t) (bytes ">>") R in
     let f : drop (a .got .used) (t ++ (bytes ">>" ++ R)) ≡ bytes ">>" ++ R = ap (λ n. drop n (t ++ (bytes ">>" ++ R))) (x .0) ∙ drop-front t (bytes ">>" ++ R) in
     record {

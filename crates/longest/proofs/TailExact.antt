@@ -1,43 +1,31 @@
 -- The conditions of a side, taken from a tape on which they stand and end: exactly these, or a previous last more. Assumes nothing.
-use Prim.Native.Nat.{ℕ, zero, suc, _+_, _-_, _*_, _^_, _≤_, _<_}
+use Prim.Native.Nat.{ℕ, _+_, _-_, _^_, _≤_, _<_}
 use native.Mathlib.Omega.{arith}
 use mathlib.Core.Path.{_≡_, refl, sym, ap, _∙_, subst}
-use mathlib.Core.Logic.{_⊎_, inl, inr, ⊎-elim}
-use mathlib.Core.Bool.{Bool, true, false, _&&_, _||_, not}
-use mathlib.Core.List.{List, [], _∷_, _++_, append-assoc, append-nil}
-use lib.Dec.{eqb, leb, ltb}
-use lib.ListN.{length, take, drop, length-append}
-use lib.Seq.{drop-drop}
+use mathlib.Core.Bool.{Bool, true, false, _&&_}
+use mathlib.Core.List.{List, _++_}
+use lib.Dec.{ltb}
+use lib.ListN.{length, drop, length-append}
 use Rattle.text.specs.Bytes.{bytes}
 use Rattle.text.specs.Pick.{pick, opt}
-use Rattle.text.specs.Decimal.{decimal, places}
-use Rattle.text.proofs.Decimal.{decimal-places, length-decimal, some-digits}
-use Rattle.text.specs.Reading.{starts, heads, isDigit, dotDigit}
+use Rattle.text.specs.Decimal.{decimal}
+use Rattle.text.proofs.Decimal.{some-digits}
+use Rattle.text.specs.Reading.{starts, heads, isDigit}
 use Rattle.text.proofs.Reading.{starts-append}
-use Rattle.text.proofs.Tests.{is-lt, is-ne}
-use Rattle.text.proofs.Texts.{and-left, and-right}
-use Rattle.nameable.proofs.Counts.{drop-front, take-front}
-use Rattle.rules.specs.Price.{priceText, units}
+use Rattle.text.proofs.Booleans.{and-off}
 use Rattle.rules.specs.Conditions.{sellerText, previousText}
 use Rattle.rules.specs.declared.Letters.{Letters}
 use Rattle.rules.specs.declared.Price.{Price}
-use Rattle.rules.specs.declared.Side.{Side}
 use Rattle.prices.specs.Sound.{Sound}
-use Rattle.prices.proofs.PriceBack.{NoMore}
 use Rattle.named.proofs.Root.{false-true}
-use Rattle.normal.proofs.Count.{flip}
 use Rattle.compose.specs.Shown.{one}
-use Rattle.scan.specs.declared.Digits.{Digits}
 use Rattle.scan.specs.declared.PriceRead.{PriceRead}
 use Rattle.scan.specs.declared.PriceAnswer.{PriceAnswer}
 use Rattle.scan.specs.declared.PriceAnswer.the-variants.{Priced, NoPrice}
-use Rattle.scan.specs.Digits.{digitsOnto, digitsAt, zeroFirst}
-use Rattle.scan.proofs.Bounds.{Counted, digits-counted}
 use Rattle.scan.specs.Price.{priceAt}
-use Rattle.scan.proofs.PriceBack.{onto-stop, onto-places, decimal-below, decimal-first, PriceAgain, price-again}
 use Rattle.tails.specs.declared.Taken.{Taken}
 use Rattle.tails.specs.Tail.{plusCash, plusAverage, plusStopped, plusSeller, plusRule, plusPrevious, sideWith, further, takesCash, cashAt, takesAverage, averageAt, takesStopped, stoppedAt, sellerDays, sellerAt, takesRule, ruleAt, closedBy, previousIn, previousBy, previousAt, afterPriceAt, atEndAt, tailAt}
-use Rattle.longest.proofs.Tail.{takesSeller, soldBy, seller-as, fromPrevious, fromRule, fromSeller, fromStopped, fromAverage, sizePrevious, sizeRule, sizeSeller, sizeStopped, sizeAverage, dropped, dropped-all, used-is, count-is, room, DaysAgain, days-again, PreviousAgain, previous-again, cash-yes, average-yes, stopped-yes, rule-yes, seller-yes, previous-there, previous-on, cash-back, average-back, stopped-back, rule-back, seller-back, withCash, withAverage, withStopped, withRule, withSeller, withPrevious, May}
+use Rattle.longest.proofs.Tail.{takesSeller, soldBy, seller-as, fromPrevious, fromRule, fromSeller, fromStopped, fromAverage, dropped, room, days-again, previous-again, cash-yes, average-yes, stopped-yes, rule-yes, seller-yes, previous-there, cash-back, average-back, stopped-back, rule-back, seller-back, withCash, withAverage, withStopped, withRule, withSeller, withPrevious}
 
 -- no condition but a previous last stands here, and no digit
 pub record Ended (R : List ℕ) : Type 0 where
@@ -228,10 +216,6 @@ pub record Begins (s : List ℕ) (st : Taken) (u n : ℕ) (x : Letters) (a b : B
 abbrev pub lettersBefore : Letters → Bool → Bool → Bool → Bool → Bool → Letters
 lettersBefore x k B t r j = setJ j (setR r (setT t (setB B (setK k x))))
 
-off : (k r : Bool) → (k && r) ≡ false → r ≡ true → k ≡ false
-off true r h e = absurd (false-true (sym h ∙ e))
-off false r h e = refl
-
 module _ (s : List ℕ) (st : Taken) (u n : ℕ) (x : Letters) (a b : Bool) (k B t r : Bool) (d : ℕ) (j g : Bool) (q : Price) (R : List ℕ) (h : Begins s st u n x a b k B t r d j g q R) (z : g ≡ false → Ended R) where
   s1 : Taken
   s1 = pick k (withCash s st) st
@@ -286,7 +270,7 @@ module _ (s : List ℕ) (st : Taken) (u n : ℕ) (x : Letters) (a b : Bool) (k B
   is4 = seller-is s s3 _ _ (setT t (setB B (setK k x))) a b is3 r d (h .no-r)
 
   cash-off : r ≡ true → k ≡ false
-  cash-off e = off k r (h .seller-no-cash) e
+  cash-off e = and-off k r (h .seller-no-cash) e
 
   to4 : sellerAt s s3 ≡ s4
   unfolding s4

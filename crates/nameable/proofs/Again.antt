@@ -1,32 +1,32 @@
 -- The head of a correcting trade: found where it stands, and what is found stands there. Assumes nothing.
-use Prim.Native.Nat.{ℕ, zero, suc, _+_, _-_, _≤_, _<_}
+use Prim.Native.Nat.{ℕ, suc, _+_, _-_, _≤_}
 use native.Mathlib.Omega.{arith}
 use mathlib.Core.Path.{_≡_, refl, sym, ap, _∙_, subst}
-use mathlib.Core.Bool.{Bool, true, false, _&&_, _||_, not}
+use mathlib.Core.Bool.{Bool, true, false}
 use mathlib.Core.List.{List, [], _∷_, _++_}
-use lib.Dec.{eqb, leb, ltb}
+use lib.Dec.{leb}
 use lib.ListN.{length, take, drop, length-append, length-take}
-use Rattle.text.specs.Bytes.{bytes}
 use Rattle.text.specs.Pick.{pick, opt, all, same}
 use Rattle.text.specs.Reading.{heads, starts}
 use Rattle.text.proofs.Reading.{starts-append}
 use Rattle.text.proofs.Tests.{is-le}
+use Rattle.text.proofs.Parts.{all-append}
 use Rattle.rules.specs.Tape.{isUpper}
 use Rattle.rules.specs.Conditions.{afterName}
 use Rattle.rules.specs.declared.Letters.{Letters}
 use Rattle.named.specs.Cut.{oneSold}
 use Rattle.named.proofs.Root.{false-true}
-use Rattle.named.proofs.Parts.{front-is, all-append}
+use Rattle.named.proofs.Parts.{front-is}
 use Rattle.named.proofs.Back.{conditions-upper}
-use Rattle.heading.specs.Name.{countOf}
 use Rattle.heading.specs.Head.{lettersAfter, soldIn, afterIn, upperCount, againBy, againIn, againAt}
 use Rattle.heading.specs.declared.AfterAnswer.{AfterAnswer}
 use Rattle.heading.specs.declared.AfterAnswer.the-variants.{After, NoAfter}
 use Rattle.heading.specs.declared.AgainRead.{AgainRead}
 use Rattle.heading.specs.declared.AgainAnswer.{AgainAnswer}
 use Rattle.heading.specs.declared.AgainAnswer.the-variants.{Again, NotAgain}
-use Rattle.nameable.proofs.Counts.{count-all, count-within, take-front, drop-front}
-use Rattle.nameable.proofs.Head.{after-back, after-short, AfterTold, after-told}
+use Rattle.heading.proofs.Count.{count-within}
+use Rattle.nameable.proofs.Counts.{count-all, take-front, drop-front}
+use Rattle.nameable.proofs.Head.{after-back, after-short, after-told}
 
 -- ---- it is found
 

@@ -1,29 +1,30 @@
 -- A text that passes is the name of a security that an S line can enter. Assumes nothing.
-use Prim.Native.Nat.{ℕ, zero, suc, _+_, _-_, _≤_, _<_}
+use Prim.Native.Nat.{ℕ, zero, suc, _+_, _-_, _≤_}
 use native.Mathlib.Omega.{arith}
 use mathlib.Core.Path.{_≡_, refl, sym, ap, _∙_}
-use mathlib.Core.Logic.{_⊎_, inl, inr, ⊎-elim}
+use mathlib.Core.Logic.{_⊎_, ⊎-elim}
 use mathlib.Core.Bool.{Bool, true, false, _&&_, _||_, not}
 use mathlib.Core.List.{List, [], _∷_, _++_, append-assoc, append-nil}
-use lib.Dec.{eqb, leb, ltb}
-use lib.ListN.{length, take, drop, getD, length-take}
+use lib.Dec.{eqb, leb}
+use lib.ListN.{length, take, drop, getD}
 use borrow.Author.Tests.{eqb-true, leb-true, not-true}
 use Rattle.text.specs.Bytes.{bytes}
 use Rattle.text.specs.Pick.{pick, opt, all, same, member, among}
-use Rattle.text.specs.Reading.{Read, found, before as putBefore, heads, span, starts}
-use Rattle.text.proofs.Texts.{and-left, and-right, same-true, same-refl}
+use Rattle.text.specs.Reading.{heads, span, starts}
+use Rattle.text.proofs.Texts.{and-left, and-right, same-true}
 use Rattle.text.proofs.Tests.{is-le, is-ne}
+use Rattle.text.proofs.Booleans.{or-true, and-both}
+use Rattle.text.proofs.Parts.{all-append}
 use Rattle.rules.specs.Tape.{isLetter, isRaised}
 use Rattle.rules.specs.Columns.{isBlank, blank, word, notBlank, between, filled, leftJustified, isRoot}
 use Rattle.rules.specs.Names.{texts, rootField, suffixField, temporaryField, appendageField, partText, nameText, listedSuffixes, isReserved, isPreferred, isSuffix, isTemporary, isAppendage, lawfulField, lawfulName}
 use Rattle.rules.specs.Line.{isPrintable, isNetwork}
 use Rattle.named.specs.Plain.{NamePlain}
-use Rattle.named.proofs.Root.{false-true, both, either}
+use Rattle.named.proofs.Root.{false-true, either}
 use Rattle.named.proofs.Parts.{each, member-each, classEnds, suffix-case}
 use Rattle.compose.specs.Columns.{firstOr, later, textField}
-use Rattle.compose.proofs.Fields.{all-both}
-use Rattle.heading.specs.Name.{countOf, endsIn, before, suffixText, withEnd, plainEnd, endsLawfully, lawfulRoot, rootCount, appendageOf, nameOn}
-use Rattle.nameable.proofs.Counts.{or-true, count-passes, take-drop, end-is}
+use Rattle.heading.specs.Name.{endsIn, before, suffixText, withEnd, plainEnd, endsLawfully, lawfulRoot, rootCount, appendageOf, nameOn}
+use Rattle.nameable.proofs.Counts.{count-passes, take-drop, end-is}
 
 -- ---- a word in its columns
 
@@ -76,7 +77,7 @@ printable-field : (k : ℕ) (w : List ℕ) → all isPrintable w ≡ true → al
 unfolding textField firstOr later all
 printable-field zero w h = refl
 printable-field (suc k) [] h = printable-blank (textField k []) (printable-field k [] h)
-printable-field (suc k) (c ∷ w) h = both (and-left (isPrintable c) (all isPrintable w) h) (printable-field k w (and-right (isPrintable c) (all isPrintable w) h))
+printable-field (suc k) (c ∷ w) h = and-both (and-left (isPrintable c) (all isPrintable w) h) (printable-field k w (and-right (isPrintable c) (all isPrintable w) h))
 
 -- ---- the words of a name
 
@@ -102,7 +103,7 @@ unfolding isLetter isPrintable between isBlank
 letter-fine c h =
     let l = leb-true 65 c (and-left (leb 65 c) _ h) in
     let u = leb-true c 90 (and-right (leb 65 c) _ h) in
-    (rw (sym (is-ne c 32 (λ e. omega (e, l, arith)))), both (sym (is-le 32 c (omega (l, arith)))) (sym (is-le c 126 (omega (u, arith)))))
+    (rw (sym (is-ne c 32 (λ e. omega (e, l, arith)))), and-both (sym (is-le 32 c (omega (l, arith)))) (sym (is-le c 126 (omega (u, arith)))))
 
 listed-fit : each (fits 7) listedSuffixes ≡ true
 unfolding each fits listedSuffixes all isBlank isPrintable between
@@ -132,7 +133,7 @@ letters-fit [] h = (refl, refl)
 letters-fit (c ∷ w) h =
     let f = letter-fine c (and-left (isLetter c) (all isLetter w) h) in
     let r = letters-fit w (and-right (isLetter c) (all isLetter w) h) in
-    (both (f .0) (r .0), both (f .1) (r .1))
+    (and-both (f .0) (r .0), and-both (f .1) (r .1))
 
 -- ---- a name from its words: root, suffix, temporary suffix, appendage
 
@@ -224,7 +225,7 @@ module _ (network : ℕ) (root suffix temporary appendage : List ℕ) (h : Words
 
   root-is : isRoot (textField 6 root) ≡ true
   unfolding isRoot
-  root-is = both (first-letter 5 root (h .letters) (h .low)) (filled-field isLetter 6 root letter-no (h .letters) (h .high))
+  root-is = and-both (first-letter 5 root (h .letters) (h .low)) (filled-field isLetter 6 root letter-no (h .letters) (h .high))
 
   built-plain : NamePlain network (nameOf root suffix temporary appendage)
   unfolding lawfulName
@@ -236,9 +237,9 @@ module _ (network : ℕ) (root suffix temporary appendage : List ℕ) (h : Words
   built-printable : all isPrintable (nameOf root suffix temporary appendage) ≡ true
   unfolding nameOf
   built-printable =
-      all-both isPrintable (textField 6 root) _ (printable-field 6 root ((letters-fit root (h .letters)) .1))
-      (all-both isPrintable (textField 7 suffix) _ (printable-field 7 suffix (prints 7 suffix suffix-fits))
-      (all-both isPrintable (textField 4 temporary) _ (printable-field 4 temporary (prints 4 temporary temporary-fits))
+      all-append isPrintable (textField 6 root) _ (printable-field 6 root ((letters-fit root (h .letters)) .1))
+      (all-append isPrintable (textField 7 suffix) _ (printable-field 7 suffix (prints 7 suffix suffix-fits))
+      (all-append isPrintable (textField 4 temporary) _ (printable-field 4 temporary (prints 4 temporary temporary-fits))
       (printable-field 2 appendage (prints 2 appendage appendage-fits))))
 
   built-text : (b : Bool) → nameText b (nameOf root suffix temporary appendage) ≡ root ++ partText suffix ++ opt b (partText temporary) ++ partText appendage

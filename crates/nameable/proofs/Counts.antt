@@ -1,21 +1,16 @@
 -- Bytes counted from the front, and texts at the end. Assumes nothing.
-use Prim.Native.Nat.{ℕ, zero, suc, _+_, _-_, _≤_, _<_}
+use Prim.Native.Nat.{ℕ, zero, suc, _+_, _-_, _≤_}
 use native.Mathlib.Omega.{arith}
 use mathlib.Core.Path.{_≡_, refl, sym, ap, _∙_}
-use mathlib.Core.Bool.{Bool, true, false, _&&_, _||_, not}
+use mathlib.Core.Bool.{Bool, true, false}
 use mathlib.Core.List.{List, [], _∷_, _++_}
-use lib.Dec.{eqb, leb}
+use lib.Dec.{leb}
 use lib.ListN.{length, take, drop, length-append}
-use borrow.Author.Tests.{leb-true}
-use Rattle.text.specs.Pick.{pick, all, same}
+use Rattle.text.specs.Pick.{pick, all}
 use Rattle.text.specs.Reading.{heads}
 use Rattle.text.proofs.Texts.{and-left, and-right, same-true, same-refl}
 use Rattle.text.proofs.Tests.{is-le}
 use Rattle.heading.specs.Name.{countOf, endsIn, before}
-
-pub or-true : (x : Bool) → (x || true) ≡ true
-or-true true = refl
-or-true false = refl
 
 -- ---- counts
 
@@ -45,24 +40,6 @@ count-passes p (suc k) (c ∷ s) = go (p c) refl (count-passes p k s)
   where
     go : (b : Bool) → p c ≡ b → all p (take (countOf p k s) s) ≡ true → all p (take (pick b (suc (countOf p k s)) 0) (c ∷ s)) ≡ true
     go b e h = next p c s (countOf p k s) b e h
-
-pub count-most : (p : ℕ → Bool) (k : ℕ) (s : List ℕ) → countOf p k s ≤ k
-unfolding countOf
-count-most p zero s = omega arith
-count-most p (suc k) [] = omega arith
-count-most p (suc k) (c ∷ s) = go (p c) (count-most p k s)
-  where
-    go : (b : Bool) → countOf p k s ≤ k → pick b (suc (countOf p k s)) 0 ≤ suc k
-    go b h = pick-most b (countOf p k s) k h
-
-pub count-within : (p : ℕ → Bool) (k : ℕ) (s : List ℕ) → countOf p k s ≤ length s
-unfolding countOf
-count-within p zero s = omega arith
-count-within p (suc k) [] = omega arith
-count-within p (suc k) (c ∷ s) = go (p c) (count-within p k s)
-  where
-    go : (b : Bool) → countOf p k s ≤ length s → pick b (suc (countOf p k s)) 0 ≤ suc (length s)
-    go b h = pick-most b (countOf p k s) (length s) h
 
 -- ---- fronts
 

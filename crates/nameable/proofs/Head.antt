@@ -1,38 +1,42 @@
 -- The head of a side: found where it stands, and what is found stands there. Assumes nothing.
-use Prim.Native.Nat.{ℕ, zero, suc, _+_, _-_, _≤_, _<_}
+use Prim.Native.Nat.{ℕ, suc, _+_, _-_, _≤_}
 use native.Mathlib.Omega.{arith}
 use mathlib.Core.Path.{_≡_, refl, sym, ap, _∙_, subst}
-use mathlib.Core.Logic.{_⊎_, inl, inr, ⊎-elim}
+use mathlib.Core.Logic.{_⊎_, ⊎-elim}
 use mathlib.Core.Bool.{Bool, true, false, _&&_, _||_, not}
-use mathlib.Core.List.{List, [], _∷_, _++_, append-assoc, append-nil}
-use lib.Dec.{eqb, leb, ltb}
+use mathlib.Core.List.{List, [], _∷_, _++_, append-nil}
+use lib.Dec.{eqb}
 use lib.ListN.{length, take, drop, length-append, length-take}
 use lib.Seq.{take-take}
 use borrow.Author.Tests.{eqb-true}
 use Rattle.text.specs.Bytes.{bytes}
-use Rattle.text.specs.Pick.{pick, opt, all, same, among}
+use Rattle.text.specs.Pick.{pick, opt, same, among}
 use Rattle.text.specs.Reading.{Read, found, before, heads, starts}
-use Rattle.text.proofs.Texts.{and-left, and-right, same-true, same-refl}
+use Rattle.text.proofs.Texts.{same-true}
+use Rattle.text.proofs.Parts.{opt-most, all-append}
+use Rattle.text.proofs.Booleans.{or-true}
 use Rattle.rules.specs.Tape.{isUpper, isRaised}
 use Rattle.rules.specs.Columns.{word}
 use Rattle.rules.specs.Names.{rootField, suffixField, temporaryField, appendageField, partText, nameText}
 use Rattle.rules.specs.Conditions.{afterName}
 use Rattle.rules.specs.Line.{isNetwork}
 use Rattle.rules.specs.declared.Letters.{Letters}
+use Rattle.rules.proofs.Fields.{word-short}
 use Rattle.named.specs.Plain.{NamePlain}
 use Rattle.named.specs.Cut.{isAfter, cut, oneSold}
 use Rattle.named.proofs.Root.{false-true, either}
-use Rattle.named.proofs.Parts.{front-is, all-append}
-use Rattle.named.proofs.Back.{name-parts, name-upper, name-cut, name-some, conditions-upper}
-use Rattle.heading.specs.Name.{countOf, nameOn}
+use Rattle.named.proofs.Parts.{front-is}
+use Rattle.named.proofs.Back.{name-upper, name-cut, conditions-upper}
+use Rattle.heading.specs.Name.{nameOn}
 use Rattle.heading.specs.Head.{lettersAfter, soldIn, afterIn, upperCount, nameCount, namedBy, inRun, headAt}
 use Rattle.heading.specs.declared.AfterAnswer.{AfterAnswer}
 use Rattle.heading.specs.declared.AfterAnswer.the-variants.{After, NoAfter}
 use Rattle.heading.specs.declared.NameRead.{NameRead}
 use Rattle.heading.specs.declared.NameAnswer.{NameAnswer}
 use Rattle.heading.specs.declared.NameAnswer.the-variants.{Named, NoName}
-use Rattle.nameable.proofs.Counts.{or-true, count-all, count-within, count-most, take-front, drop-front, take-drop}
-use Rattle.nameable.proofs.Lawful.{word-short, name-lawful}
+use Rattle.heading.proofs.Count.{name-within, count-within}
+use Rattle.nameable.proofs.Counts.{count-all, take-front, drop-front, take-drop}
+use Rattle.nameable.proofs.Lawful.{name-lawful}
 
 -- ---- the conditions after a name
 
@@ -141,11 +145,6 @@ unfolding partText opt
 part-short [] k h = omega arith
 part-short (c ∷ s) k h = dotted-short (isRaised c) c s k h
 
-opt-short : (b : Bool) (s : List ℕ) (k : ℕ) → length s ≤ k → length (opt b s) ≤ k
-unfolding opt
-opt-short true s k h = h
-opt-short false s k h = omega arith
-
 pub name-short : (b : Bool) (name : List ℕ) → length (nameText b name) ≤ 22
 unfolding nameText
 name-short b name =
@@ -155,7 +154,7 @@ name-short b name =
     let a = partText (word (appendageField name)) in
     let i : length r ≤ 6 = omega (word-short (rootField name), length-take 6 name, arith) in
     let j : length s ≤ 8 = part-short (word (suffixField name)) 7 (omega (word-short (suffixField name), length-take 7 (drop 6 name), arith)) in
-    let k : length t ≤ 5 = opt-short b (partText (word (temporaryField name))) 5 (part-short (word (temporaryField name)) 4 (omega (word-short (temporaryField name), length-take 4 (drop 13 name), arith))) in
+    let k : length t ≤ 5 = opt-most b (partText (word (temporaryField name))) 5 (part-short (word (temporaryField name)) 4 (omega (word-short (temporaryField name), length-take 4 (drop 13 name), arith))) in
     let l : length a ≤ 3 = part-short (word (appendageField name)) 2 (omega (word-short (appendageField name), length-take 2 (drop 17 name), arith)) in
     omega (length-append r s, length-append (r ++ s) t, length-append (r ++ s ++ t) a, i, j, k, l, arith)
 
@@ -175,11 +174,6 @@ count-cut : (s : List ℕ) → nameCount s ≡ length ((cut s) .got)
 unfolding nameCount cut
 count-cut [] = refl
 count-cut (c ∷ s) = counted (isAfter (c ∷ s)) c s (cut s) (nameCount s) (count-cut s)
-
-pub count-within-run : (s : List ℕ) → nameCount s ≤ length s
-unfolding nameCount
-count-within-run [] = omega arith
-count-within-run (c ∷ s) = count-next (isAfter (c ∷ s)) (nameCount s) (length s) (count-within-run s)
 
 -- ---- the head is found
 
@@ -252,11 +246,11 @@ module _ (temporary : Bool) (s : List ℕ) where
 
   named-length : length named ≡ nameCount run
   unfolding named
-  named-length = omega (length-take (nameCount run) run, count-within-run run, arith)
+  named-length = omega (length-take (nameCount run) run, name-within run, arith)
 
   named-front : take (nameCount run) s ≡ named
   unfolding named run
-  named-front = sym (take-take (nameCount run) (upperCount s) s (omega (count-within-run run, run-length, arith)))
+  named-front = sym (take-take (nameCount run) (upperCount s) s (omega (name-within run, run-length, arith)))
 
   read-as : Letters → NameRead
   read-as x = record { length = length named; used = length run; letters = x; a = nameOn temporary 65 named; b = nameOn temporary 66 named }
@@ -269,7 +263,7 @@ module _ (temporary : Bool) (s : List ℕ) where
       let g : take (length run) s ≡ run = ap (λ k. take k s) run-length in
       record {
         within = omega (run-length, count-within isUpper 35 s, arith);
-        short = omega (named-length, count-within-run run, arith);
+        short = omega (named-length, name-within run, arith);
         text = g ∙ sym (take-drop (nameCount run) run) ∙ ap (λ z. named ++ z) (t .text) ∙ ap (λ z. z ++ afterName x) (sym f);
         on-a = ap (nameOn temporary 65) (sym f);
         on-b = ap (nameOn temporary 66) (sym f);

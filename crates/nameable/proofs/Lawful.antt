@@ -1,29 +1,29 @@
 -- The name of a security that an S line can enter passes. Assumes nothing.
-use Prim.Native.Nat.{ℕ, zero, suc, _+_, _-_, _≤_, _<_}
+use Prim.Native.Nat.{ℕ, _+_, _-_, _≤_}
 use native.Mathlib.Omega.{arith}
 use mathlib.Core.Path.{_≡_, refl, sym, ap, _∙_}
 use mathlib.Core.Bool.{Bool, true, false, _&&_, _||_, not}
 use mathlib.Core.List.{List, [], _∷_, _++_, append-assoc, append-nil}
 use lib.Dec.{eqb, leb, ltb}
-use mathlib.Core.Logic.{_⊎_, inl, inr, ⊎-elim}
-use lib.ListN.{length, take, drop, length-take}
+use mathlib.Core.Logic.{_⊎_, ⊎-elim}
+use lib.ListN.{length, length-take}
 use borrow.Author.Tests.{eqb-true, ltb-true}
 use Rattle.text.specs.Bytes.{bytes}
 use Rattle.text.specs.Pick.{pick, opt, all, same, member, among}
-use Rattle.text.specs.Reading.{Read, heads, span}
+use Rattle.text.specs.Reading.{heads}
 use Rattle.text.proofs.Texts.{and-left, and-right, same-true}
 use Rattle.text.proofs.Tests.{is-le, is-nle}
+use Rattle.text.proofs.Booleans.{and-false, or-true}
 use Rattle.rules.specs.Tape.{isLetter, isRaised}
-use Rattle.rules.specs.Columns.{word, notBlank, between, leftJustified}
-use Rattle.rules.specs.Names.{texts, rootField, suffixField, temporaryField, appendageField, partText, nameText, isReserved, isSuffix, isTemporary, isAppendage, lawfulField, lawfulName}
-use Rattle.rules.specs.Line.{isNetwork}
+use Rattle.rules.specs.Columns.{word, between, leftJustified}
+use Rattle.rules.specs.Names.{rootField, suffixField, temporaryField, appendageField, partText, nameText, isReserved, isSuffix, isTemporary, isAppendage, lawfulField, lawfulName}
+use Rattle.rules.proofs.Fields.{word-short}
 use Rattle.named.specs.Plain.{NamePlain}
 use Rattle.named.proofs.Root.{false-true, either, root-text}
-use Rattle.named.proofs.Parts.{each, member-each, among-each, field-case}
+use Rattle.named.proofs.Parts.{among-each}
 use Rattle.named.proofs.Back.{name-parts, heads-some}
-use Rattle.compose.proofs.Below.{span-short}
-use Rattle.heading.specs.Name.{countOf, endsIn, before, suffixText, withEnd, plainEnd, endsLawfully, lawfulRoot, rootCount, appendageOf, nameOn}
-use Rattle.nameable.proofs.Counts.{or-true, count-all, take-front, drop-front, ends-yes, before-end}
+use Rattle.heading.specs.Name.{suffixText, withEnd, plainEnd, endsLawfully, lawfulRoot, rootCount, appendageOf, nameOn}
+use Rattle.nameable.proofs.Counts.{count-all, take-front, drop-front, ends-yes, before-end}
 
 -- ---- suffix
 
@@ -123,17 +123,8 @@ lawful-word : (listed : List ℕ → Bool) (field : List ℕ) → lawfulField li
 unfolding lawfulField
 lawful-word listed field h = and-right (leftJustified field) _ h
 
--- a word is no longer than its field
-pub word-short : (s : List ℕ) → length (word s) ≤ length s
-unfolding word
-word-short s = span-short notBlank s
-
 root-short : (name : List ℕ) → length (word (rootField name)) ≤ 7
 root-short name = omega (word-short (rootField name), length-take 6 name, arith)
-
-and-false : (a : Bool) → (a && false) ≡ false
-and-false true = refl
-and-false false = refl
 
 -- above Z
 above : ℕ → Bool

@@ -1,25 +1,26 @@
 -- A name is read back from a tape: its bytes are of the upper row, and it is told apart from the conditions after it. Assumes nothing.
-use Prim.Native.Nat.{ℕ, suc, _+_, _≤_}
+use Prim.Native.Nat.{ℕ, _+_, _≤_}
 use native.Mathlib.Omega.{arith}
-use mathlib.Core.Path.{_≡_, refl, sym, ap, _∙_}
+use mathlib.Core.Path.{_≡_, refl, ap, _∙_}
 use mathlib.Core.Bool.{Bool, true, false, _&&_, _||_, not}
 use mathlib.Core.List.{List, [], _∷_, _++_, append-assoc}
-use mathlib.Core.Option.{Option, none, some}
-use lib.ListN.{length, length-append}
+use mathlib.Core.Option.{some}
+use lib.ListN.{length}
 use Rattle.text.specs.Bytes.{bytes}
 use Rattle.text.specs.Pick.{pick, opt, all, same, among}
-use Rattle.text.specs.Reading.{Read, found, heads, span, starts}
+use Rattle.text.specs.Reading.{found, heads, span, starts}
 use Rattle.text.proofs.Texts.{and-left, and-right}
 use Rattle.text.proofs.Reading.{span-all}
+use Rattle.text.proofs.Parts.{heads-append, all-opt, all-append}
 use Rattle.rules.specs.Tape.{isLetter, isUpper}
 use Rattle.rules.specs.Columns.{word}
 use Rattle.rules.specs.Names.{rootField, suffixField, temporaryField, appendageField, partText, nameText, isReserved, isSuffix, isTemporary, isAppendage, lawfulField, lawfulName}
 use Rattle.rules.specs.Conditions.{afterName}
 use Rattle.rules.specs.declared.Letters.{Letters}
 use Rattle.named.specs.Plain.{NamePlain}
-use Rattle.named.specs.Cut.{isAfter, cut, Sold, plain, opened, sold, last, soldText, After, after, afterText, afters, firstOf, readAfter, Divided, divide, soldOf, afterOf, oneSold}
-use Rattle.named.proofs.Root.{false-true, both, root-text}
-use Rattle.named.proofs.Parts.{all-append, letters-upper, ends, clean, clean-append, clean-root, cut-clean, sound, soundDotted, suffix-sound, temporary-sound, appendage-sound}
+use Rattle.named.specs.Cut.{isAfter, cut, Sold, plain, opened, sold, last, soldText, after, afterText, firstOf, readAfter, divide, soldOf, afterOf, oneSold}
+use Rattle.named.proofs.Root.{false-true, root-text}
+use Rattle.named.proofs.Parts.{letters-upper, ends, clean, clean-append, clean-root, cut-clean, sound, soundDotted, suffix-sound, temporary-sound, appendage-sound}
 
 -- ---- the parts of a name, one after another
 
@@ -49,20 +50,11 @@ unfolding ends
 ends-append [] u h k = k
 ends-append (c ∷ t) u h k = h
 
-heads-append : (p : ℕ → Bool) (t u : List ℕ) → heads p t ≡ true → heads p (t ++ u) ≡ true
-heads-append p [] u h = absurd (false-true h)
-heads-append p (c ∷ t) u h = h
-
 pub heads-some : (p : ℕ → Bool) (t : List ℕ) → heads p t ≡ true → 1 ≤ length t
 heads-some p [] h = absurd (false-true h)
 heads-some p (c ∷ t) h = omega arith
 
 -- ---- the conditions after a name
-
-all-opt : (p : ℕ → Bool) (b : Bool) (t : List ℕ) → all p t ≡ true → all p (opt b t) ≡ true
-unfolding opt all
-all-opt p true t h = h
-all-opt p false t h = refl
 
 pub conditions-upper : (x : Letters) → all isUpper (afterName x) ≡ true
 unfolding afterName all isUpper isLetter among

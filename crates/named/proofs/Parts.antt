@@ -1,36 +1,32 @@
 -- No condition begins inside a part of a lawful name, and its bytes are of the upper row: the listed texts by computation, the families by their letter. Assumes nothing.
-use Prim.Native.Nat.{ℕ, suc, _≤_, _<_}
-use native.Mathlib.Omega.{arith}
+use Prim.Native.Nat.{ℕ}
 use mathlib.Core.Path.{_≡_, refl, sym, ap, _∙_}
 use mathlib.Core.Bool.{Bool, true, false, _&&_, _||_, not}
 use mathlib.Core.List.{List, [], _∷_, _++_}
-use mathlib.Core.Logic.{_⊎_, inl, inr, ⊎-elim}
+use mathlib.Core.Logic.{_⊎_, ⊎-elim}
 use lib.ListN.{length, drop}
 use lib.Dec.{eqb}
 use borrow.Author.Tests.{eqb-true, eq-eqb, ne-eqb, not-true}
 use Rattle.text.specs.Bytes.{bytes}
 use Rattle.text.specs.Pick.{pick, opt, all, same, among, member}
-use Rattle.text.specs.Reading.{Read, found, before, starts}
+use Rattle.text.specs.Reading.{found, before, starts}
 use Rattle.text.proofs.Texts.{and-left, and-right, same-true}
+use Rattle.text.proofs.Parts.{all-append}
+use Rattle.text.proofs.Booleans.{and-both}
 use Rattle.rules.specs.Tape.{isLetter, isUpper, isRaised}
 use Rattle.rules.specs.Columns.{word, leftJustified}
 use Rattle.rules.specs.Names.{texts, partText, listedSuffixes, isClass, isSeries, isPreferred, isSuffix, isTemporary, isAppendage, lawfulField}
 use Rattle.named.specs.Cut.{isAfter, cut}
-use Rattle.named.proofs.Root.{false-true, both, either, letter-not-dot}
+use Rattle.named.proofs.Root.{false-true, either, letter-not-dot}
 
 -- ---- bytes that pass
-
-pub all-append : (p : ℕ → Bool) (s t : List ℕ) → all p s ≡ true → all p t ≡ true → all p (s ++ t) ≡ true
-unfolding all
-all-append p [] t h k = k
-all-append p (c ∷ s) t h k = both (and-left (p c) (all p s) h) (all-append p s t (and-right (p c) (all p s) h) k)
 
 pub letters-upper : (s : List ℕ) → all isLetter s ≡ true → all isUpper s ≡ true
 unfolding all isUpper
 letters-upper [] h = refl
 letters-upper (c ∷ s) h =
     let u : isUpper c ≡ true = rw (and-left (isLetter c) (all isLetter s) h) in
-    both u (letters-upper s (and-right (isLetter c) (all isLetter s) h))
+    and-both u (letters-upper s (and-right (isLetter c) (all isLetter s) h))
 
 -- ---- where no condition begins
 
@@ -67,7 +63,7 @@ unfolding clean
 clean-append [] u h k e = k
 clean-append (c ∷ t) u h k e =
     let n : not (isAfter (c ∷ (t ++ u))) ≡ true = rw (after-ends c t u e) (and-left (not (isAfter (c ∷ t))) (clean t) h) in
-    both n (clean-append t u (and-right (not (isAfter (c ∷ t))) (clean t) h) k e)
+    and-both n (clean-append t u (and-right (not (isAfter (c ∷ t))) (clean t) h) k e)
 
 clean-letter : (c : ℕ) (s : List ℕ) → isLetter c ≡ true → clean s ≡ true → clean (c ∷ s) ≡ true
 unfolding clean isAfter
@@ -165,18 +161,18 @@ raised s = refl
 -- a raised p, then what is sound by itself
 raised-sound : (s : List ℕ) → all isUpper s ≡ true → clean s ≡ true → sound (112 ∷ s) ≡ true
 unfolding sound all clean isAfter isUpper isLetter among
-raised-sound s h k = rw raised (both h k)
+raised-sound s h k = rw raised (and-both h k)
 
 class-sound : (c : ℕ) (e : List ℕ) → isLetter c ≡ true → member e classEnds ≡ true → sound (112 ∷ c ∷ e) ≡ true
 unfolding each all clean isAfter isUpper isLetter among starts
 class-sound c e h m =
     let u : all isUpper e ≡ true = member-each (all isUpper) classEnds e refl m in
     let k : clean e ≡ true = member-each clean classEnds e refl m in
-    raised-sound (c ∷ e) (all-append isUpper (c ∷ []) e (letters-upper (c ∷ []) (both h refl)) u) (clean-letter c e h k)
+    raised-sound (c ∷ e) (all-append isUpper (c ∷ []) e (letters-upper (c ∷ []) (and-both h refl)) u) (clean-letter c e h k)
 
 series-sound : (c : ℕ) → isLetter c ≡ true → sound (112 ∷ 67 ∷ c ∷ []) ≡ true
 unfolding all clean isAfter isLetter
-series-sound c h = raised-sound (67 ∷ c ∷ []) (letters-upper (67 ∷ c ∷ []) (both refl (both h refl))) (clean-root (67 ∷ c ∷ []) [] (both refl (both h refl)) refl)
+series-sound c h = raised-sound (67 ∷ c ∷ []) (letters-upper (67 ∷ c ∷ []) (and-both refl (and-both h refl))) (clean-root (67 ∷ c ∷ []) [] (and-both refl (and-both h refl)) refl)
 
 listed-sound : each sound listedSuffixes ≡ true
 unfolding each sound listedSuffixes all clean isAfter isUpper isLetter isRaised among starts partText opt

@@ -1,27 +1,25 @@
 -- A root's text: letters A-Z, at least one. Assumes nothing.
-use Prim.Native.Nat.{ℕ, suc, _≤_, _<_}
+use Prim.Native.Nat.{ℕ, _≤_}
 use native.Mathlib.Omega.{arith}
-use mathlib.Core.Path.{_≡_, refl, sym, ap, _∙_}
-use mathlib.Core.Bool.{Bool, true, false, _&&_, _||_, not}
-use mathlib.Core.List.{List, [], _∷_, _++_}
+use mathlib.Core.Path.{_≡_, refl, sym, _∙_}
+use mathlib.Core.Bool.{Bool, true, false, _||_}
+use mathlib.Core.List.{List, [], _∷_}
 use mathlib.Core.Logic.{_⊎_, inl, inr}
 use lib.ListN.{getD}
 use lib.Dec.{leb, eqb}
 use borrow.Author.Tests.{leb-true, eqb-true, ne-eqb}
 use Rattle.text.specs.Pick.{pick, all}
-use Rattle.text.specs.Reading.{Read, heads, span}
+use Rattle.text.specs.Reading.{heads, span}
 use Rattle.text.proofs.Texts.{and-left, and-right}
 use Rattle.rules.specs.Tape.{isLetter}
 use Rattle.rules.specs.Columns.{isBlank, blank, word, filled, isRoot}
-use Rattle.words.proofs.Fields.{word-blank, word-byte, word-nothing}
+use Rattle.rules.proofs.Fields.{word-blank, word-byte}
+use Rattle.words.proofs.Fields.{word-nothing}
 
 -- ---- tests
 
 pub false-true : false ≡ true → ⊥
 false-true h = let z : _≡_ {A = ℕ} 0 1 = cc in omega arith
-
-pub both : {a b : Bool} → a ≡ true → b ≡ true → (a && b) ≡ true
-both h k = rw (h, k)
 
 pub either : (a b : Bool) → (a || b) ≡ true → (a ≡ true) ⊎ (b ≡ true)
 either true b h = inl refl

@@ -1,24 +1,23 @@
 -- Four columns hold at most four letters. Assumes nothing.
-use Prim.Native.Nat.{ℕ, zero, suc, _+_, _≤_, _<_}
+use Prim.Native.Nat.{ℕ, _+_, _≤_}
 use native.Mathlib.Omega.{arith}
 use mathlib.Core.Path.{_≡_, refl, sym, ap, _∙_}
-use mathlib.Core.Bool.{Bool, true, false, _&&_, _||_, not}
+use mathlib.Core.Bool.{Bool, true, false, _||_, not}
 use mathlib.Core.List.{List, [], _∷_}
 use lib.Dec.{eqb, leb}
 use lib.ListN.{length}
 use borrow.Author.Tests.{eqb-true, eqb-false, not-true}
 use Rattle.text.specs.Bytes.{bytes}
 use Rattle.text.specs.Pick.{pick, among}
-use Rattle.text.specs.Reading.{Read, found, before, span}
+use Rattle.text.specs.Reading.{span}
 use Rattle.text.proofs.Texts.{and-left, and-right}
 use Rattle.text.proofs.Tests.{is-le}
+use Rattle.text.proofs.Booleans.{or-left, or-right}
+use Rattle.text.proofs.Parts.{span-short}
 use Rattle.rules.specs.Columns.{word, notBlank}
 use Rattle.rules.specs.Conditions.{lettersIn, unrepeated}
 use Rattle.rules.specs.Shown.{shownLetters}
-use Rattle.rules.specs.declared.Letters.{Letters}
-use Rattle.named.proofs.Root.{false-true}
 use Rattle.compose.specs.Shown.{one, letterCount}
-use Rattle.compose.proofs.Below.{span-short}
 
 -- how many of the letters stand in the text
 counted : List ℕ → List ℕ → ℕ
@@ -46,14 +45,6 @@ flip c d h = go (eqb d c) refl
     go : (t : Bool) → eqb d c ≡ t → t ≡ false
     go true e = absurd (eqb-false c d h (sym (eqb-true d c e)))
     go false e = refl
-
-or-left : (a b : Bool) → (a || b) ≡ false → a ≡ false
-or-left false b h = refl
-or-left true b h = h
-
-or-right : (a b : Bool) → (a || b) ≡ false → b ≡ false
-or-right false b h = h
-or-right true b h = absurd (false-true (sym h))
 
 no-hit : (b : ℕ) (l : List ℕ) → among b l ≡ false → hits b l ≡ 0
 unfolding hits among pick

@@ -1,47 +1,36 @@
 -- Every day holds securities such as S lines enter: from a fresh one, and by every call. Assumes nothing.
-use Prim.Native.Nat.{ℕ, _-_, _≤_, _<_}
+use Prim.Native.Nat.{ℕ, _-_, _≤_}
 use native.Mathlib.Omega.{arith}
 use mathlib.Core.Path.{_≡_, refl, sym, ap, _∙_, subst}
-use mathlib.Core.Bool.{Bool, true, false, _&&_, not}
-use mathlib.Core.List.{List, []}
-use mathlib.Core.Logic.{_⊎_, inl, inr, ⊎-elim}
+use mathlib.Core.Bool.{true, not}
+use mathlib.Core.List.{List}
+use mathlib.Core.Logic.{_⊎_, ⊎-elim}
 use mathlib.Core.Option.{Option, none, some}
-use lib.Dec.{eqb}
-use lib.ListN.{length, getD, set, replicate, length-set, length-replicate, getD-replicate}
+use lib.ListN.{getD, set, length-set, length-replicate, getD-replicate}
 use lib.Seq.{getD-set-same, getD-set-other}
-use borrow.Author.Tests.{eqb-true, eqb-false}
 use Rattle.text.proofs.Texts.{and-left}
+use Rattle.text.proofs.Booleans.{same-or-not}
 use Rattle.rules.specs.Columns.{between, columns, numberIn, valueOf}
 use Rattle.rules.specs.Line.{isSecurityNumber, lineOf, nameColumns, listingOf, tradeRanged, tradeOf, correctionRanged, correctionOf}
 use Rattle.rules.specs.Trade.{afterTrade}
 use Rattle.rules.specs.Correction.{afterCorrection}
 use Rattle.rules.specs.Day.{Day, Call, cleared, fresh, opened, vacant, noName, isEntered, securityAt, nameAt, withSettings, withSecurity, entered, afterLine, refusalOf, after}
 use Rattle.rules.specs.declared.Line.{Line}
-use Rattle.rules.specs.declared.Line.the-variants.{Dated, Listed, Moded, Leveled, Stepped, Traded, Cancelled, Erred, Corrected}
+use Rattle.rules.specs.declared.Line.the-variants.{Listed, Traded, Corrected}
 use Rattle.rules.specs.declared.Refusal.{Refusal}
 use Rattle.rules.specs.declared.Security.{Security}
 use Rattle.rules.specs.declared.Settings.{Settings}
+use Rattle.rules.proofs.Days.{entered-alike, none-there}
+use Rattle.rules.proofs.Fields.{security-number}
 use Rattle.named.proofs.Root.{false-true}
 use Rattle.compose.specs.Shown.{Enterable}
-use Rattle.compose.proofs.Below.{security-is}
-use Rattle.normal.specs.Held.{Held}
-use Rattle.normal.proofs.Views.{Accepted, accepted-is, Of, of-date, of-listing, of-mode, of-level, of-step, of-trade, of-cancel, of-error, of-correction, of-line}
+use Rattle.normal.specs.Invariant.{Invariant}
+use Rattle.normal.proofs.Views.{accepted-is, Of, of-date, of-listing, of-mode, of-level, of-step, of-trade, of-cancel, of-error, of-correction, of-line}
 use Rattle.normal.proofs.Normal.{Lists, lists-of, number-low, number-high, enterable}
-
-same-or-not : (i j : ℕ) → (i ≡ j) ⊎ (i ≡ j → ⊥)
-same-or-not i j = go (eqb i j) refl
-  where
-    go : (b : Bool) → eqb i j ≡ b → (i ≡ j) ⊎ (i ≡ j → ⊥)
-    go true e = inl (eqb-true i j e)
-    go false e = inr (eqb-false i j e)
-
-none-there : isEntered vacant ≡ false
-unfolding isEntered vacant
-none-there = refl
 
 -- ---- a date line clears the day
 
-held-cleared : (date : ℕ) → Held (cleared date)
+held-cleared : (date : ℕ) → Invariant (cleared date)
 unfolding cleared opened between
 held-cleared date = record {
   securities-are = length-replicate 512 vacant;
@@ -50,20 +39,16 @@ held-cleared date = record {
   minimum-set = refl;
 }
 
-pub held-fresh : Held fresh
+pub held-fresh : Invariant fresh
 unfolding fresh
 held-fresh = held-cleared 0
 
 -- ---- settings, and a security after a trade or a correction
 
-held-set : (day : Day) (st : Settings) → Held day → between 1 100 (st .minimum) ≡ true → Held (withSettings day st)
+held-set : (day : Day) (st : Settings) → Invariant day → between 1 100 (st .minimum) ≡ true → Invariant (withSettings day st)
 held-set day st h k = record { securities-are = h .securities-are; names-are = h .names-are; enterable = h .enterable; minimum-set = k }
 
-entered-alike : (s t : Security) → s .unit ≡ t .unit → isEntered s ≡ isEntered t
-unfolding isEntered
-entered-alike s t e = rw e
-
-module _ (day : Day) (h : Held day) (i : ℕ) (low : 1 ≤ i) (high : i ≤ 512) (s : Security) (unit-is : s .unit ≡ (securityAt day i) .unit) (network-is : s .network ≡ (securityAt day i) .network) where
+module _ (day : Day) (h : Invariant day) (i : ℕ) (low : 1 ≤ i) (high : i ≤ 512) (s : Security) (unit-is : s .unit ≡ (securityAt day i) .unit) (network-is : s .network ≡ (securityAt day i) .network) where
   Fits : Security → ℕ → Type 0
   Fits x j = isEntered x ≡ true → Enterable (x .network) (x .unit) (nameAt day j)
 
@@ -84,13 +69,13 @@ module _ (day : Day) (h : Held day) (i : ℕ) (low : 1 ≤ i) (high : i ≤ 512)
       (λ (n : j - 1 ≡ i - 1 → ⊥). subst (λ x. Fits x j) (sym (getD-set-other (day .securities) (i - 1) (j - 1) s vacant n)) (h .enterable j a b))
       (same-or-not (j - 1) (i - 1))
 
-  held-changed : Held (withSecurity day i s)
+  held-changed : Invariant (withSecurity day i s)
   unfolding Fits
   held-changed = record { securities-are = length-set (day .securities) (i - 1) s ∙ h .securities-are; names-are = h .names-are; enterable = changed; minimum-set = h .minimum-set }
 
 -- ---- a security entered
 
-module _ (day : Day) (h : Held day) (line : List ℕ) (a : Lists day line) where
+module _ (day : Day) (h : Invariant day) (line : List ℕ) (a : Lists day line) where
   abbrev p : ℕ
   p = (listingOf line) .number - 1
 
@@ -113,28 +98,28 @@ module _ (day : Day) (h : Held day) (line : List ℕ) (a : Lists day line) where
       (subst (λ m. FitsBy (securityAt day j) m) (sym (getD-set-other (day .names) p (j - 1) (nameColumns line) noName u)) (h .enterable j low high)))
       (same-or-not (j - 1) p)
 
-  held-listed : Held (afterLine day (nameColumns line) (Listed (listingOf line)))
+  held-listed : Invariant (afterLine day (nameColumns line) (Listed (listingOf line)))
   unfolding afterLine FitsBy
   held-listed = record { securities-are = length-set (day .securities) p (entered (listingOf line)) ∙ h .securities-are; names-are = length-set (day .names) p (nameColumns line) ∙ h .names-are; enterable = listed; minimum-set = h .minimum-set }
 
 -- ---- any accepted line
 
-module _ (day : Day) (h : Held day) (line : List ℕ) (room : ℕ) (accepted : refusalOf day line room ≡ none) where
-  trade-held : tradeRanged line ≡ true → Held (afterLine day (nameColumns line) (Traded (tradeOf line)))
+module _ (day : Day) (h : Invariant day) (line : List ℕ) (room : ℕ) (accepted : refusalOf day line room ≡ none) where
+  trade-held : tradeRanged line ≡ true → Invariant (afterLine day (nameColumns line) (Traded (tradeOf line)))
   unfolding afterLine tradeRanged tradeOf afterTrade
   trade-held r =
       let i = valueOf (numberIn (columns 2 5 line)) in
-      let n = security-is i (and-left (isSecurityNumber i) _ r) in
+      let n = security-number i (and-left (isSecurityNumber i) _ r) in
       held-changed day h i (n .0) (n .1) _ refl refl
 
-  correction-held : correctionRanged line ≡ true → Held (afterLine day (nameColumns line) (Corrected (correctionOf line)))
+  correction-held : correctionRanged line ≡ true → Invariant (afterLine day (nameColumns line) (Corrected (correctionOf line)))
   unfolding afterLine correctionRanged correctionOf afterCorrection
   correction-held r =
       let i = valueOf (numberIn (columns 2 5 line)) in
-      let n = security-is i (and-left (isSecurityNumber i) _ r) in
+      let n = security-number i (and-left (isSecurityNumber i) _ r) in
       held-changed day h i (n .0) (n .1) _ refl refl
 
-  held-by : {l : Line} → lineOf line ≡ l → Of line l → Held (afterLine day (nameColumns line) l)
+  held-by : {l : Line} → lineOf line ≡ l → Of line l → Invariant (afterLine day (nameColumns line) l)
   unfolding afterLine
   held-by e (of-date n) = held-cleared n
   held-by e (of-listing f g) = held-listed day h line (lists-of day line room accepted e f g)
@@ -146,14 +131,14 @@ module _ (day : Day) (h : Held day) (line : List ℕ) (room : ℕ) (accepted : r
   held-by e (of-error r) = h
   held-by e (of-correction r) = correction-held r
 
-  pub held-line : Held (afterLine day (nameColumns line) (lineOf line))
+  pub held-line : Invariant (afterLine day (nameColumns line) (lineOf line))
   held-line = held-by refl (of-line day line room (accepted-is day line room accepted))
 
 -- A CALL KEEPS IT, accepted or not
-pub held-after : (day : Day) (c : Call) → Held day → Held (after day c)
+pub held-after : (day : Day) (c : Call) → Invariant day → Invariant (after day c)
 unfolding after
 held-after day c h = go (refusalOf day (c .line) (c .room)) refl
   where
-    go : (o : Option Refusal) → refusalOf day (c .line) (c .room) ≡ o → Held (elim o [ some r ↦ day | none ↦ afterLine day (nameColumns (c .line)) (lineOf (c .line)) ])
+    go : (o : Option Refusal) → refusalOf day (c .line) (c .room) ≡ o → Invariant (elim o [ some r ↦ day | none ↦ afterLine day (nameColumns (c .line)) (lineOf (c .line)) ])
     go (some r) e = h
     go none e = held-line day h (c .line) (c .room) e

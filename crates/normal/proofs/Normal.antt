@@ -20,14 +20,16 @@ use Rattle.rules.specs.NormalPrint.{ReadFact, nameOf, levelDay, listedDay, Norm
 use Rattle.rules.specs.declared.Mode.the-variants.{Normal}
 use Rattle.rules.specs.declared.Line.the-variants.{Listed}
 use Rattle.rules.specs.declared.Refusal.the-variants.{InUse, Name, Room}
+use Rattle.rules.proofs.Days.{none-there, passed}
+use Rattle.rules.proofs.Fields.{security-number}
 use Rattle.named.proofs.Root.{false-true}
 use Rattle.compose.specs.Shown.{Enterable}
 use Rattle.compose.specs.Printable.{Printable}
-use Rattle.compose.proofs.Below.{security-is, root-columns}
+use Rattle.compose.proofs.Below.{root-columns}
 use Rattle.compose.proofs.ByKind.{line-by, formed-by, ranged-by}
-use Rattle.normal.specs.Held.{Held}
+use Rattle.normal.specs.Invariant.{Invariant}
 use Rattle.normal.proofs.Unsuffixed.{all-take, all-drop}
-use Rattle.normal.proofs.Views.{passed, accepted-is, printable-as, day-printable}
+use Rattle.normal.proofs.Views.{accepted-is, printable-as, day-printable}
 
 -- ---- the security that the S line enters
 
@@ -66,11 +68,11 @@ lists-is day line room k h =
 module _ (day : Day) (line : List ℕ) (a : Lists day line) where
   pub number-low : 1 ≤ (listingOf line) .number
   unfolding listingOf listingRanged
-  number-low = (security-is (valueOf (numberIn (columns 2 5 line))) (and-left (isSecurityNumber (valueOf (numberIn (columns 2 5 line)))) _ (a .ranged))) .0
+  number-low = (security-number (valueOf (numberIn (columns 2 5 line))) (and-left (isSecurityNumber (valueOf (numberIn (columns 2 5 line)))) _ (a .ranged))) .0
 
   pub number-high : (listingOf line) .number ≤ 512
   unfolding listingOf listingRanged
-  number-high = (security-is (valueOf (numberIn (columns 2 5 line))) (and-left (isSecurityNumber (valueOf (numberIn (columns 2 5 line)))) _ (a .ranged))) .1
+  number-high = (security-number (valueOf (numberIn (columns 2 5 line))) (and-left (isSecurityNumber (valueOf (numberIn (columns 2 5 line)))) _ (a .ranged))) .1
 
   pub enterable : Enterable ((listingOf line) .network) ((listingOf line) .unit) (nameColumns line)
   unfolding listingOf listingFormed listingRanged
@@ -94,10 +96,6 @@ module _ (day : Day) (line : List ℕ) (a : Lists day line) where
       nineteen = omega (length-take 19 (drop 5 line), length-drop 5 line, long line (a .shaped), arith)
 
 -- ---- the day with the security entered
-
-none-there : isEntered vacant ≡ false
-unfolding isEntered vacant
-none-there = refl
 
 module _ (date level minimum : ℕ) (listing : List ℕ) (a : Lists (levelDay date level minimum) listing) where
   theDay : Day
@@ -144,7 +142,7 @@ module _ (date level minimum : ℕ) (listing : List ℕ) (a : Lists (levelDay da
   unfolding entered
   listed-there i h = rw (h .security-is-it, h .name-is-it) (enterable (levelDay date level minimum) listing a)
 
-  held-there : between 1 100 minimum ≡ true → Held theDay
+  held-there : between 1 100 minimum ≡ true → Invariant theDay
   unfolding theDay afterLine levelDay cleared place
   held-there k = record { securities-are = length-set (replicate 512 vacant) place (entered (listingOf listing)) ∙ length-replicate 512 vacant; names-are = length-set (replicate 512 noName) place (nameColumns listing) ∙ length-replicate 512 noName; enterable = λ i low high h. listed-there i (there i low high h); minimum-set = k }
 

@@ -1,19 +1,18 @@
 -- A name whose temporary suffix is not shown prints as the name without it, which an S line can enter too. Assumes nothing.
 use Prim.Native.Nat.{ℕ, zero, suc}
 use native.Mathlib.Omega.{arith}
-use mathlib.Core.Path.{_≡_, refl, sym, ap, _∙_}
-use mathlib.Core.Bool.{Bool, true, false, _&&_, _||_, not}
+use mathlib.Core.Path.{_≡_, refl, ap, _∙_}
+use mathlib.Core.Bool.{Bool, true, false, _&&_, not}
 use mathlib.Core.List.{List, [], _∷_, _++_}
 use lib.ListN.{length, take, drop}
 use Rattle.text.specs.Pick.{pick, opt, all, same}
-use Rattle.text.specs.Reading.{Read, found, before, span}
+use Rattle.text.specs.Reading.{span}
 use Rattle.text.proofs.Texts.{and-left, and-right}
-use Rattle.rules.specs.Columns.{between, word, blank, isBlank, notBlank, filled, leftJustified, isRoot}
+use Rattle.text.proofs.Parts.{all-append}
+use Rattle.rules.specs.Columns.{between, word, blank, isBlank, filled, leftJustified, isRoot}
 use Rattle.rules.specs.Line.{isPrintable}
 use Rattle.rules.specs.Names.{rootField, suffixField, temporaryField, appendageField, partText, nameText, lawfulField, lawfulName, isReserved, isSuffix, isTemporary, isAppendage}
-use Rattle.named.specs.Plain.{NamePlain}
 use Rattle.named.proofs.Root.{false-true}
-use Rattle.named.proofs.Parts.{all-append}
 use Rattle.compose.specs.Shown.{Enterable}
 
 -- a name of 19 columns

@@ -1,6 +1,5 @@
 -- What an accepted line prints in normal mode, on any day that holds securities such as S lines enter, is what one line can show. Assumes nothing.
-use Prim.Native.Nat.{ℕ, _≤_}
-use native.Mathlib.Omega.{arith}
+use Prim.Native.Nat.{ℕ}
 use mathlib.Core.Path.{_≡_, refl, sym, ap, _∙_}
 use mathlib.Core.Bool.{Bool, true, false, _&&_, not}
 use mathlib.Core.List.{List, [], _∷_}
@@ -35,12 +34,13 @@ use Rattle.rules.specs.declared.Line.the-variants.{Dated, Listed, Moded, Levele
 use Rattle.rules.specs.declared.Refusal.{Refusal}
 use Rattle.rules.specs.declared.Refusal.the-variants.{Shape, Kind, NoDate, Form, Value, NotEntered, Conditions, Unmatched, Room}
 use Rattle.rules.specs.declared.Security.{Security}
+use Rattle.rules.proofs.Days.{passed}
+use Rattle.rules.proofs.Fields.{security-number}
 use Rattle.named.proofs.Root.{false-true}
 use Rattle.compose.specs.Shown.{Enterable, Showable}
 use Rattle.compose.specs.Printable.{partIn, Printable, by-mode, by-level, by-trade, by-cancel, by-error, by-correction}
-use Rattle.compose.proofs.Below.{security-is}
 use Rattle.normal.specs.Shown.{shownSide}
-use Rattle.normal.specs.Held.{Held}
+use Rattle.normal.specs.Invariant.{Invariant}
 use Rattle.normal.proofs.Unsuffixed.{printedName, printed-text, printed-enterable}
 use Rattle.normal.proofs.Sides.{showable-side, same-conditions, same-side, same-cancel, same-correction}
 
@@ -49,11 +49,6 @@ use Rattle.normal.proofs.Sides.{showable-side, same-conditions, same-si
 isNone : Option Refusal → Bool
 isNone none = true
 isNone (some r) = false
-
-pub passed : (b : Bool) (r : Refusal) (later : Option Refusal) → refuse b r later ≡ none → (b ≡ false) × (later ≡ none)
-unfolding refuse pick isNone
-passed true r later h = absurd (false-true (ap isNone h))
-passed false r later h = (refl, h)
 
 -- what an accepted line owes
 pub record Accepted (day : Day) (line : List ℕ) (room : ℕ) : Type 0 where
@@ -138,7 +133,7 @@ announced-told (c ∷ t) shown fact e k = ap readFact (some-same e) ∙ k
 
 -- ---- a day that holds such securities, in normal mode
 
-module _ (day : Day) (held : Held day) (normal : day .settings .mode ≡ Normal) where
+module _ (day : Day) (held : Invariant day) (normal : day .settings .mode ≡ Normal) where
   -- all in full
 
   is-normal : isNormal (day .settings .mode) ≡ true
@@ -231,7 +226,7 @@ module _ (day : Day) (held : Held day) (normal : day .settings .mode ≡ Normal)
   unfolding tradeRefusal tradeRanged tradeOf
   trade-owes line later r h =
       let i = valueOf (numberIn (columns 2 5 line)) in
-      let n = security-is i (and-left (isSecurityNumber i) _ r) in
+      let n = security-number i (and-left (isSecurityNumber i) _ r) in
       let side = firstSide line in
       let network = (securityAt day i) .network in
       let p = passed (not (isEntered (securityAt day i))) NotEntered _ h in
@@ -252,7 +247,7 @@ module _ (day : Day) (held : Held day) (normal : day .settings .mode ≡ Normal)
   unfolding correctionRefusal correctionRanged correctionOf
   correction-owes line later r h =
       let i = valueOf (numberIn (columns 2 5 line)) in
-      let n = security-is i (and-left (isSecurityNumber i) _ r) in
+      let n = security-number i (and-left (isSecurityNumber i) _ r) in
       let s = and-right (isSecurityNumber i) _ r in
       let x = firstSide line in
       let y = secondSide line in

@@ -1,17 +1,15 @@
 -- A day in normal mode is read back from its tape: the same prints in order, under the same names, with the day's shown facts. Assumes nothing.
-use Prim.Native.Nat.{ℕ, _≤_}
+use Prim.Native.Nat.{ℕ}
 use native.Mathlib.Omega.{arith}
 use mathlib.Core.Path.{_≡_, refl, sym, ap, _∙_, subst}
 use mathlib.Core.Bool.{Bool, true, false}
-use mathlib.Core.List.{List, [], _∷_, _++_, map, append-assoc}
+use mathlib.Core.List.{List, [], _∷_, _++_, map}
 use mathlib.Core.Option.{Option, none, some}
 use lib.ListN.{length}
 use Rattle.text.specs.Pick.{pick, opt}
 use Rattle.rules.specs.Line.{lineOf}
 use Rattle.rules.specs.Announcement.{modeText, levelText, stepText}
-use Rattle.rules.specs.Trade.{printsTrade}
-use Rattle.rules.specs.Correction.{printsCorrection}
-use Rattle.rules.specs.Day.{Day, Call, fresh, refusalOf, printOf, tradePrint, correctionPrint, tapeOf, after, securityAt}
+use Rattle.rules.specs.Day.{Day, Call, fresh, refusalOf, printOf, tradePrint, correctionPrint, tapeOf, after}
 use Rattle.rules.specs.Shown.{Fact, entries, announcedIf, factOf, shownBy, shown}
 use Rattle.rules.specs.NormalPrint.{ReadFact, readFact, nameOf, NormalPrint}
 use Rattle.rules.specs.declared.Mode.the-variants.{Normal}
@@ -20,16 +18,16 @@ use Rattle.rules.specs.declared.Line.the-variants.{Dated, Listed, Moded, Levele
 use Rattle.rules.specs.declared.Refusal.{Refusal}
 use Rattle.named.proofs.Root.{false-true}
 use Rattle.compose.proofs.Prints.{printable-normal}
-use Rattle.normal.specs.Held.{Held}
+use Rattle.normal.specs.Invariant.{Invariant}
 use Rattle.normal.proofs.Views.{day-printable}
 use Rattle.normal.proofs.Days.{held-fresh, held-after}
 use Rattle.calls.proofs.Runs.{fresh-run}
 use Rattle.longest.specs.Tape.{Reading, Prints, blank, onward, readings}
 use Rattle.longest.proofs.Tape.{tape-back}
 use Rattle.wholeday.specs.Claim.{callsOf}
-use Rattle.wholeday.specs.Owed.{tape}
+use Rattle.wholeday.specs.Decodes.{tape}
 use Rattle.wholeday.proofs.WholeDay.{joined}
-use Rattle.normalday.specs.Claim.{ReadBack, NormalRun}
+use Rattle.normalday.specs.Claim.{NormalRun}
 use Rattle.normalday.specs.Prints.{printedBy, printedFrom, InNormal, no-call, a-call}
 
 -- ---- what shows nothing prints nothing
@@ -66,7 +64,7 @@ silent day (Corrected c) e = unprinted _ _ _ e
 
 -- ---- one call
 
-module _ (day : Day) (h : Held day) (normal : day .settings .mode ≡ Normal) (c : Call) where
+module _ (day : Day) (h : Invariant day) (normal : day .settings .mode ≡ Normal) (c : Call) where
   -- a call that shows nothing leaves the tape as it is
   none-printed : shownBy day c ≡ none → tapeOf day c ≡ []
   unfolding shownBy tapeOf
@@ -92,7 +90,7 @@ module _ (day : Day) (h : Held day) (normal : day .settings .mode ≡ Normal) (c
 
 -- ---- the whole day
 
-all-prints : (day : Day) (cs : List Call) → Held day → InNormal day cs → Prints (tape day cs) (printedFrom day cs)
+all-prints : (day : Day) (cs : List Call) → Invariant day → InNormal day cs → Prints (tape day cs) (printedFrom day cs)
 unfolding tape printedFrom
 all-prints day _ h (no-call _) = blank
 all-prints day _ h (a-call _ c cs n m) = one-call day h n c (all-prints (after day c) cs (held-after day c h) m) (shownBy day c) refl

@@ -2,21 +2,20 @@
 use Prim.Native.Nat.{ℕ, _+_, _^_, _≤_, _<_}
 use native.Mathlib.Omega.{arith}
 use mathlib.Core.Path.{_≡_, refl, sym, ap, _∙_}
-use mathlib.Core.Bool.{Bool, true, false, _&&_, _||_, not}
-use mathlib.Core.List.{List, [], _∷_}
+use mathlib.Core.Bool.{Bool, true, false, _&&_, not}
+use mathlib.Core.List.{List}
 use lib.Dec.{leb, ltb, eqb}
-use lib.ListN.{length, take, drop, length-take, length-drop}
-use borrow.Author.Tests.{leb-true, ltb-true, eqb-true, not-true, not-false}
+use lib.ListN.{length}
+use borrow.Author.Tests.{leb-true, ltb-true, eqb-true, not-false}
 use Rattle.text.specs.Pick.{pick}
 use Rattle.text.proofs.Tests.{pick-yes, pick-no}
 use Rattle.text.proofs.Texts.{and-left, and-right}
-use Rattle.rules.specs.Columns.{column, numberIn, valueOf, passes, between}
-use Rattle.rules.specs.Line.{isShaped, isPrintable, isFormed, isRanged, lineOf, ofKind, nameColumns, isPrice, previousRanged, rangedBy, sideRanged, sideBy, sideOf, volumeIn, priceIn, decimalsIn, daysIn, previousIn, previousDecimalsIn, isSecurityNumber, isUnit, listingRanged, listingOf, tradeRanged, tradeOf, correctionRanged, correctionOf, firstSide}
-use Rattle.rules.specs.declared.Number.{Number}
-use Rattle.rules.specs.declared.Number.the-variants.{Blank, Bad, Is}
+use Rattle.rules.specs.Columns.{column, valueOf, passes}
+use Rattle.rules.specs.Line.{isShaped, isFormed, isRanged, lineOf, ofKind, nameColumns, isPrice, rangedBy, sideRanged, sideBy, sideOf, volumeIn, priceIn, decimalsIn, daysIn, previousIn, previousDecimalsIn, isSecurityNumber, listingRanged, listingOf, tradeRanged, tradeOf, correctionRanged, correctionOf, firstSide}
 use Rattle.rules.specs.declared.Parsed.{Parsed}
 use Rattle.rules.specs.declared.Settings.{Settings}
 use Rattle.rules.specs.declared.Refusal.the-variants.{Form, Value}
+use Rattle.rules.proofs.Fields.{few-decimals, security-number}
 use Rattle.prices.specs.Sound.{Sound}
 use Rattle.planner.specs.declared.Plan.{Plan}
 use Rattle.planner.specs.declared.Plan.the-variants.{Stop}
@@ -27,22 +26,6 @@ unfolding isPrice
 sound-price n d h =
     let r = and-right (leb 1 n) (leb d 8 && ltb n (10 ^ (6 + d))) h in
     record { decimals = leb-true d 8 (and-left (leb d 8) (ltb n (10 ^ (6 + d))) r); small = ltb-true n (10 ^ (6 + d)) (and-right (leb d 8) (ltb n (10 ^ (6 + d))) r) }
-
-few-decimals : (n d : Number) → previousRanged n d ≡ true → valueOf d ≤ 8
-unfolding previousRanged passes valueOf
-few-decimals Blank Blank h = omega arith
-few-decimals Blank Bad h = omega arith
-few-decimals Blank (Is d) h = leb-true d 8 h
-few-decimals Bad Blank h = omega arith
-few-decimals Bad Bad h = omega arith
-few-decimals Bad (Is d) h = leb-true d 8 h
-few-decimals (Is n) Blank h = omega arith
-few-decimals (Is n) Bad h = omega arith
-few-decimals (Is n) (Is d) h = (sound-price n d h) .decimals
-
-sound-number : (n : ℕ) → isSecurityNumber n ≡ true → (1 ≤ n) × (n ≤ 512)
-unfolding isSecurityNumber between
-sound-number n h = (leb-true 1 n (and-left (leb 1 n) (leb n 512) h), leb-true n 512 (and-right (leb 1 n) (leb n 512) h))
 
 pub sound-side : (side : List ℕ) → sideRanged side ≡ true → Sound ((sideOf side) .price) × ((sideOf side) .previous .d ≤ 8)
 unfolding sideRanged sideOf rangedBy sideBy
@@ -55,14 +38,14 @@ sound-side side h =
 pub sound-trade : (line : List ℕ) → tradeRanged line ≡ true → SoundTrade (tradeOf line)
 unfolding tradeRanged tradeOf
 sound-trade line h =
-    let n = sound-number _ (and-left (isSecurityNumber _) _ h) in
+    let n = security-number _ (and-left (isSecurityNumber _) _ h) in
     let s = sound-side _ (and-right (isSecurityNumber _) _ h) in
     record { low = n .0; high = n .1; price = s .0; previous = s .1 }
 
 sound-correction : (line : List ℕ) → correctionRanged line ≡ true → SoundCorrection (correctionOf line)
 unfolding correctionRanged correctionOf
 sound-correction line h =
-    let n = sound-number _ (and-left (isSecurityNumber _) _ h) in
+    let n = security-number _ (and-left (isSecurityNumber _) _ h) in
     let b = and-right (isSecurityNumber _) _ h in
     let x = sound-side _ (and-left (sideRanged (firstSide line)) _ b) in
     let y = sound-side _ (and-right (sideRanged (firstSide line)) _ b) in
@@ -70,7 +53,7 @@ sound-correction line h =
 
 sound-listing : (line : List ℕ) → listingRanged line ≡ true → SoundListing (listingOf line)
 unfolding listingRanged listingOf
-sound-listing line h = let n = sound-number _ (and-left (isSecurityNumber _) _ h) in record { low = n .0; high = n .1 }
+sound-listing line h = let n = security-number _ (and-left (isSecurityNumber _) _ h) in record { low = n .0; high = n .1 }
 
 -- of every kind
 abbrev Owes : Parsed → Type 0
@@ -120,9 +103,6 @@ module _ (line : List ℕ) (p : Parsed) (read : p ≡ ofKind (column 1 line) lin
   pub read-through : (st : Settings) (table names : List ℕ) (r : Plan) → not (p .formed) ≡ false → not (p .ranged) ≡ false → r ≡ linePlan st table names (nameColumns line) (p .line) → r ≡ readPlan st table names line
   unfolding readPlan
   read-through st table names r h k e = pick-no _ _ _ _ (ap not formed-is ∙ h) (pick-no _ _ _ _ (ap not ranged-is ∙ k) (rw line-is e))
-
-pub name-length : (line : List ℕ) → length line ≡ 100 → length (nameColumns line) ≡ 19
-name-length line h = rw (length-take, length-drop) (omega arith)
 
 pub shaped : (line : List ℕ) (r : Bool) → r ≡ isShaped line → not r ≡ false → length line ≡ 100
 unfolding isShaped

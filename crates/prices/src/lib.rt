@@ -13,7 +13,7 @@ ghost use Rattle.rules.specs.Price.{wholePart, fraction, units, wholeText, frac
 ghost use Rattle.prices.specs.Sound.{Sound};
 
 // Ten to the power k.
-fn power(k: u64) -> u64
+pub fn power(k: u64) -> u64
     requires { ⌜ k ≤ 8 ⌝ }
     ensures { λ r. ⌜ (r ≡ 10 ^ k) × (1 ≤ r) ⌝ }
 {

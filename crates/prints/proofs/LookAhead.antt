@@ -11,6 +11,7 @@ use lib.Seq.{drop-drop, drop-append-le}
 use borrow.Author.Tests.{leb-true, leb-false, le-leb, lt-leb, eqb-true, eqb-false}
 use Rattle.text.specs.Pick.{pick}
 use Rattle.text.proofs.Texts.{and-left, and-right}
+use Rattle.text.proofs.Booleans.{and-false}
 use Rattle.reader.specs.Read.{printAt, readAt}
 use Rattle.reader.specs.Told.{lengthOf}
 use Rattle.short.proofs.Ahead.{ahead}
@@ -65,10 +66,6 @@ enough (suc j) (suc k) s place h l = enough-more j k (enough j k) s place h l (d
 pub read-none : (s : List ℕ) (place : ℕ) → due s place ≡ false → readFrom s place ≡ []
 unfolding readFrom
 read-none s place h = prints-none s place (length s) h
-
-and-false : (b : Bool) → (b && false) ≡ false
-and-false true = refl
-and-false false = refl
 
 -- behind a print of n bytes
 onward : (s : List ℕ) (place n : ℕ) → 1 ≤ n → (b : Bool) → leb (place + n) 9999999999 ≡ b → readFrom (drop n s) (place + n) ≡ pick (leb 1 n && b) (readFrom (drop n s) (place + n)) []

@@ -1,18 +1,17 @@
 -- Laws of the steps that read a print, in the form of the code's needs. Assumes nothing.
-use Prim.Native.Nat.{ℕ, _+_, _-_, _≤_, _<_}
-use native.Mathlib.Omega.{arith}
-use mathlib.Core.Path.{_≡_, refl, sym, ap, _∙_}
-use mathlib.Core.Bool.{Bool, true, false, _&&_, _||_, not}
-use mathlib.Core.List.{List, []}
+use Prim.Native.Nat.{ℕ, _+_, _-_, _<_}
+use mathlib.Core.Path.{_≡_, refl, ap, _∙_}
+use mathlib.Core.Bool.{Bool, true, false, not}
+use mathlib.Core.List.{List}
 use lib.ListN.{length, take, drop}
-use lib.Dec.{leb, eqb, ltb}
+use lib.Dec.{leb, ltb}
 use borrow.Author.Tests.{eq-eqb, ne-eqb, lt-ltb, le-ltb, leb-true, leb-false, not-true, not-false}
 use Rattle.text.specs.Bytes.{bytes}
 use Rattle.text.specs.Pick.{pick}
 use Rattle.text.specs.Reading.{starts}
+use Rattle.text.proofs.Parts.{rest-is}
 use Rattle.rules.specs.Correction.{repeatsName}
 use Rattle.rules.specs.Line.{alike}
-use Rattle.rules.specs.declared.Refusal.{Refusal}
 use Rattle.rules.specs.declared.Refusal.the-variants.{NoPrint}
 use Rattle.rules.specs.declared.Letters.{Letters}
 use Rattle.rules.specs.declared.Side.{Side}
@@ -24,7 +23,6 @@ use Rattle.heading.specs.declared.AgainRead.{AgainRead}
 use Rattle.heading.specs.declared.AgainAnswer.{AgainAnswer}
 use Rattle.heading.specs.declared.AgainAnswer.the-variants.{Again, NotAgain}
 use Rattle.heading.specs.Head.{headAt, againAt}
-use Rattle.sideread.specs.declared.Beside.{Beside}
 use Rattle.sideread.specs.declared.Beside.the-variants.{Alone, With}
 use Rattle.sideread.specs.declared.SideRead.{SideRead}
 use Rattle.sideread.specs.declared.SideAnswer.{SideAnswer}
@@ -36,7 +34,6 @@ use Rattle.reader.specs.declared.ReadAnswer.the-variants.{Announcement, 
 use Rattle.reader.specs.declared.EndedAnswer.{EndedAnswer}
 use Rattle.reader.specs.declared.EndedAnswer.the-variants.{Ended, NotEnded}
 use Rattle.reader.specs.Read.{tradeSide, tradeHead, tradeAt, endAt, endedBy, cancelSide, cancelHead, cancelAt, asCancel, asError, correctedBy, secondSide, secondHead, secondAt, correctionSide, correctionHead, correctionAt, announcedBy, printAt, readAt}
-use Rattle.reader.proofs.Rooms.{cut}
 
 -- ---- a trade
 
@@ -252,4 +249,4 @@ module _ (s : List ℕ) (r : ReadAnswer) (q : Bool) (e : q ≡ starts (bytes "<<
 
 pub read-is : (tape : List ℕ) (place : ℕ) (r : ReadAnswer) → r ≡ printAt (take (length tape - place) (drop place tape)) → r ≡ readAt tape place
 unfolding readAt
-read-is tape place r e = e ∙ ap printAt (cut tape place)
+read-is tape place r e = e ∙ ap printAt (rest-is tape place)

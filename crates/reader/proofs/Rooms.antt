@@ -1,50 +1,46 @@
 -- What stands behind n bytes, as the code cuts it out, and that it is within the text. Assumes nothing.
 use Prim.Native.Nat.{ℕ, _+_, _-_, _^_, _≤_, _<_}
 use native.Mathlib.Omega.{arith}
-use mathlib.Core.Path.{_≡_, refl, sym, ap, _∙_}
+use mathlib.Core.Path.{_≡_, sym, ap, _∙_}
 use mathlib.Core.Bool.{Bool, true, false, not}
-use mathlib.Core.List.{List, []}
+use mathlib.Core.List.{List}
 use lib.ListN.{length, take, drop, length-drop}
-use lib.Seq.{take-all}
 use borrow.Author.Tests.{not-false}
 use Rattle.text.specs.Bytes.{bytes}
 use Rattle.text.specs.Reading.{starts}
+use Rattle.text.proofs.Parts.{rest-is, starts-within}
 use Rattle.rules.specs.declared.Letters.{Letters}
-use Rattle.volumescan.proofs.Shown.{starts-within}
 use Rattle.heading.specs.declared.NameRead.{NameRead}
 use Rattle.heading.specs.declared.NameAnswer.{NameAnswer}
-use Rattle.heading.specs.declared.NameAnswer.the-variants.{Named, NoName}
+use Rattle.heading.specs.declared.NameAnswer.the-variants.{Named}
 use Rattle.heading.specs.declared.AgainRead.{AgainRead}
 use Rattle.heading.specs.declared.AgainAnswer.{AgainAnswer}
-use Rattle.heading.specs.declared.AgainAnswer.the-variants.{Again, NotAgain}
+use Rattle.heading.specs.declared.AgainAnswer.the-variants.{Again}
 use Rattle.heading.specs.Head.{headAt, againAt}
 use Rattle.heading.proofs.Bounds.{head-used, head-length, head-short, again-used}
 use Rattle.sideread.specs.declared.Beside.{Beside}
 use Rattle.sideread.specs.declared.SideRead.{SideRead}
 use Rattle.sideread.specs.declared.SideAnswer.{SideAnswer}
-use Rattle.sideread.specs.declared.SideAnswer.the-variants.{Sided, NoSide}
+use Rattle.sideread.specs.declared.SideAnswer.the-variants.{Sided}
 use Rattle.sideread.specs.Side.{sideAt}
 use Rattle.sideread.proofs.Bounds.{side-within}
 
 -- ---- as the code cuts it out
 
-pub cut : (s : List ℕ) (n : ℕ) → take (length s - n) (drop n s) ≡ drop n s
-cut s n = take-all (length s - n) (drop n s) (rw length-drop (omega arith))
-
 module _ (s : List ℕ) (n : ℕ) where
   pub stands-cut : (p : List ℕ) (r : Bool) → r ≡ starts p (take (length s - n) (drop n s)) → r ≡ starts p (drop n s)
-  stands-cut p r e = e ∙ ap (starts p) (cut s n)
+  stands-cut p r e = e ∙ ap (starts p) (rest-is s n)
 
   pub head-cut : (t : Bool) (r : NameAnswer) → r ≡ headAt t (take (length s - n) (drop n s)) → r ≡ headAt t (drop n s)
-  head-cut t r e = e ∙ ap (headAt t) (cut s n)
+  head-cut t r e = e ∙ ap (headAt t) (rest-is s n)
 
   pub side-cut : (first : Beside) (letters : Letters) (a b : Bool) (r : SideAnswer) → r ≡ sideAt first letters a b (take (length s - n) (drop n s)) → r ≡ sideAt first letters a b (drop n s)
-  side-cut first letters a b r e = e ∙ ap (sideAt first letters a b) (cut s n)
+  side-cut first letters a b r e = e ∙ ap (sideAt first letters a b) (rest-is s n)
 
   pub again-cut : (k : ℕ) (r : AgainAnswer) → r ≡ againAt (take (7 + k - 7) (drop 7 s)) (take (length s - n) (drop n s)) → r ≡ againAt (take k (drop 7 s)) (drop n s)
   again-cut k r e =
       let m : 7 + k - 7 ≡ k = omega arith in
-      e ∙ (ap (λ j. againAt (take j (drop 7 s)) (take (length s - n) (drop n s))) m ∙ ap (againAt (take k (drop 7 s))) (cut s n))
+      e ∙ (ap (λ j. againAt (take j (drop 7 s)) (take (length s - n) (drop n s))) m ∙ ap (againAt (take k (drop 7 s))) (rest-is s n))
 
 -- ---- a head behind k bytes, and a side behind it
 

@@ -4,11 +4,12 @@ use mathlib.Core.Path.{_≡_, refl, sym, ap, _∙_}
 use mathlib.Core.Bool.{Bool, true, false, _&&_, _||_, not}
 use lib.Dec.{leb, eqb}
 use Rattle.text.specs.Pick.{pick}
+use Rattle.text.proofs.Booleans.{or-true, or-false}
 use Rattle.rules.specs.Price.{wholePart, units}
 use Rattle.rules.specs.Conditions.{hasRule}
 use Rattle.rules.specs.Qualifying.{forRange, forLast}
 use Rattle.rules.specs.Trade as rules
-use Rattle.rules.specs.Trade.{atLevel, firstQualifying, newHigh, newLow, newRange, tens, endsInZero, dollars, fullAt, fullPrice, showsVolume, printsAnyhow, unlikePrinted, farFromPrinted, printsTrade, isNormal, tradeFull, tradeShows}
+use Rattle.rules.specs.Trade.{atLevel, firstQualifying, newHigh, newLow, newRange, tens, endsInZero, dollars, fullAt, fullPrice, showsVolume, printsAnyhow, printsTrade, isNormal, tradeFull, tradeShows}
 use Rattle.rules.specs.Correction.{pricesDiffer, printsInDvd, unlikeLast, printsInBoth, printsCorrection, isMpv, wholeInFull, fullPrices, showsVolumes, correctionFull, correctionShows, cancelFull, cancelShows}
 use Rattle.rules.specs.declared.Mode.{Mode}
 use Rattle.rules.specs.declared.Mode.the-variants.{Normal, Dvd, Rpo, Mpv}
@@ -19,15 +20,7 @@ use Rattle.comparing.specs.Parts.{printsRpo, printsMpv, lastUnlike, lastFar}
 use Rattle.comparing.proofs.Values as values
 use Rattle.correcting.proofs.Corrected as corrected
 use Rattle.reasons.proofs.Given.{in-normal, in-dvd, in-rpo, in-mpv}
-use Rattle.reasons.specs.Reasons.{inMode, always, inNormal, shownInNormal, tensLeft, rpoTrade, mpvTrade, tradePrints, dvdCorrection, laterCorrection, correctionPrints, fullBy, tradeFullBy, correctionFullBy, cancelFullBy, tradeShowsBy, correctionShowsBy, cancelShowsBy, somePrint, someFull, someVolume}
-
-or-true : (a : Bool) → (a || true) ≡ true
-or-true true = refl
-or-true false = refl
-
-or-false : (a : Bool) → (a || false) ≡ a
-or-false true = refl
-or-false false = refl
+use Rattle.reasons.specs.Reasons.{always, inNormal, shownInNormal, tensLeft, rpoTrade, mpvTrade, tradePrints, dvdCorrection, laterCorrection, correctionPrints, fullBy, tradeFullBy, correctionFullBy, cancelFullBy, tradeShowsBy, correctionShowsBy, cancelShowsBy, somePrint, someFull, someVolume}
 
 -- either of two, each asked with the same condition
 both-asked : (f a b c : Bool) → ((f && a) || ((f && b) || c)) ≡ ((f && (a || b)) || c)

@@ -1,27 +1,14 @@
 -- How long the text of reasons is: at most 219 bytes. Assumes nothing.
-use Prim.Native.Nat.{ℕ, _+_, _≤_}
+use Prim.Native.Nat.{_≤_}
 use native.Mathlib.Omega.{arith}
-use mathlib.Core.Path.{_≡_}
-use mathlib.Core.Bool.{Bool, true, false}
-use mathlib.Core.List.{List}
 use lib.ListN.{length, length-append}
 use Rattle.text.specs.Bytes.{bytes}
-use Rattle.text.specs.Pick.{pick, opt}
+use Rattle.text.proofs.Parts.{opt-short, pick-most}
 use Rattle.reasons.specs.Reasons.{someFull, someVolume}
 use Rattle.reasons.specs.declared.PrintReasons.{PrintReasons}
 use Rattle.reasons.specs.declared.FullReasons.{FullReasons}
 use Rattle.reasons.specs.declared.VolumeReasons.{VolumeReasons}
 use Rattle.reasontext.specs.Text.{rangeReasons, firstReasons, unitReasons, lastReasons, printReasons, priceWord, tensReasons, wholeReasons, sideReasons, fullReasons, priceText, volumeWord, levelReasons, ruleReasons, volumeReasons, volumeText, reasonsText}
-
-opt-short : (b : Bool) (t : List ℕ) → length (opt b t) ≤ length t
-unfolding opt
-opt-short true t = omega arith
-opt-short false t = omega arith
-
-word-short : (b : Bool) (t u : List ℕ) (n : ℕ) → length t ≤ n → length u ≤ n → length (pick b t u) ≤ n
-unfolding pick
-word-short true t u n h k = h
-word-short false t u n h k = k
 
 print-short : (r : PrintReasons) → length (printReasons r) ≤ 104
 unfolding printReasons rangeReasons firstReasons unitReasons lastReasons
@@ -52,7 +39,7 @@ price-short r =
     simp length-append
     (omega (
       arith,
-      word-short (someFull r) (bytes "full") (bytes "short") 5 (omega arith) (omega arith),
+      pick-most (someFull r) (bytes "full") (bytes "short") 5 (omega arith) (omega arith),
       opt-short (r .normal) (bytes ":normal"),
       opt-short (r .none) (bytes ":none"),
       opt-short (r .tens) (bytes ":tens"),
@@ -70,7 +57,7 @@ volume-short r =
     simp length-append
     (omega (
       arith,
-      word-short (someVolume r) (bytes "shown") (bytes "off") 5 (omega arith) (omega arith),
+      pick-most (someVolume r) (bytes "shown") (bytes "off") 5 (omega arith) (omega arith),
       opt-short (r .normal) (bytes ":normal"),
       opt-short (r .level) (bytes ":level"),
       opt-short (r .first) (bytes ":first"),

@@ -6,7 +6,7 @@ use mathlib.Core.List.{List, _++_, append-assoc}
 use lib.ListN.{length, take, drop, length-drop}
 use lib.Seq.{length-take-le, take-at, take-take}
 use Rattle.text.specs.Put.{put, Written}
-use Rattle.blocks.proofs.Fronts.{counted}
+use Rattle.text.proofs.Parts.{counted}
 use Rattle.refill.specs.Block.{unused}
 
 -- what was moved to the front is what was not yet used

@@ -1,1 +1,3 @@
 pub mod Marked
+pub mod Fields
+pub mod Days

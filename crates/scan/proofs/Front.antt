@@ -1,6 +1,6 @@
 -- Laws of digits and prices at the front of a tape, in the form of the code's needs. Assumes nothing.
 use Prim.Native.Nat.{ℕ, zero, suc, _+_, _-_, _*_, _^_, _≤_, _<_}
-use native.Mathlib.Nat.{pow-suc, pow-le-pow-right, le-antisymm, mul-le-mul}
+use native.Mathlib.Nat.{pow-suc, pow-le-pow-right, mul-le-mul}
 use native.Mathlib.Numerals.{add-one}
 use native.Mathlib.Omega.{arith}
 use mathlib.Core.Path.{_≡_, refl, sym, ap, _∙_}
@@ -8,14 +8,13 @@ use mathlib.Core.Bool.{Bool, true, false}
 use mathlib.Core.List.{List, [], _∷_}
 use lib.ListN.{length, getD, take, drop, drop-of-length-le, length-drop}
 use lib.Seq.{drop-cons, take-all}
-use lib.Dec.{leb, eqb}
 use borrow.Author.Tests.{lt-leb, le-leb, eq-eqb, ne-eqb}
 use Rattle.text.specs.Pick.{pick}
-use Rattle.text.specs.Reading.{heads, isDigit, starts}
+use Rattle.text.specs.Reading.{isDigit, starts}
 use Rattle.scan.specs.declared.Digits.{Digits}
 use Rattle.scan.specs.declared.PriceAnswer.{PriceAnswer}
 use Rattle.scan.specs.declared.PriceAnswer.the-variants.{Priced, NoPrice}
-use Rattle.scan.specs.Digits.{digitsOnto, digitsAt, zeroFirst}
+use Rattle.scan.specs.Digits.{digitsOnto, zeroFirst}
 use Rattle.scan.specs.Price.{fractionAt, pricedBy, priceAt}
 
 -- ---- a text at the front: p and s are alike up to i
@@ -101,15 +100,6 @@ fraction-yes (c ∷ s) r h k e =
     rw (eq-eqb c 44 k) (e ∙ ap (digitsOnto 8 0 0) a)
 
 -- ---- a price
-
-over-3 : (k : ℕ) → (k ≡ 0 → ⊥) → (k ≡ 1 → ⊥) → (k ≡ 2 → ⊥) → (k ≡ 3 → ⊥) → 4 ≤ k
-over-3 k a b c d = omega arith
-
-over-7 : (k : ℕ) → 4 ≤ k → (k ≡ 4 → ⊥) → (k ≡ 5 → ⊥) → (k ≡ 6 → ⊥) → (k ≡ 7 → ⊥) → 8 ≤ k
-over-7 k h a b c d = omega arith
-
-pub last-power : (k : ℕ) → k ≤ 8 → (k ≡ 0 → ⊥) → (k ≡ 1 → ⊥) → (k ≡ 2 → ⊥) → (k ≡ 3 → ⊥) → (k ≡ 4 → ⊥) → (k ≡ 5 → ⊥) → (k ≡ 6 → ⊥) → (k ≡ 7 → ⊥) → 100000000 ≡ 10 ^ k
-last-power k h a b c d e f g i = rw (le-antisymm h (over-7 k (over-3 k a b c d) e f g i))
 
 module _ (w f : Digits) where
   pub priced-none : f .value ≡ 0 → w .count ≡ 0 → NoPrice ≡ pricedBy w f

@@ -92,23 +92,6 @@ fn fraction_at(s: &[u8]) -> Digits
     digits_at(&s[1..], 8)
 }
 
-fn power(d: usize) -> u64
-    requires { ⌜ d ≤ 8 ⌝ }
-    ensures { λ r. ⌜ r ≡ 10 ^ d ⌝ }
-{
-    match d {
-        0 => 1,
-        1 => 10,
-        2 => 100,
-        3 => 1000,
-        4 => 10000,
-        5 => 100000,
-        6 => 1000000,
-        7 => 10000000,
-        _ => 100000000,
-    }
-}
-
 // The price that a whole part and a fraction say.
 fn priced(w: Digits, f: Digits) -> PriceAnswer
     requires { ⌜ (w .value < 1000000) × (w .count ≤ 6) × (f .value < 100000000) × (f .count ≤ 8) ⌝ }
@@ -124,9 +107,10 @@ fn priced(w: Digits, f: Digits) -> PriceAnswer
             used: w.count,
         });
     }
+    let d = f.count as u64;
     let price = Price {
-        n: w.value * power(f.count) + f.value,
-        d: f.count as u64,
+        n: w.value * prices::power(d) + f.value,
+        d: d,
     };
     PriceAnswer::Priced(PriceRead {
         price: price,

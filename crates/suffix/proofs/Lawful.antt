@@ -1,8 +1,8 @@
 -- Laws of the tests that make a name lawful, in the form that the code's needs have. Assumes nothing.
-use Prim.Native.Nat.{ℕ, zero, suc, _-_, _≤_, _<_}
+use Prim.Native.Nat.{ℕ, _-_, _≤_}
 use native.Mathlib.Omega.{arith}
-use mathlib.Core.Path.{_≡_, refl, sym, ap, _∙_}
-use mathlib.Core.Bool.{Bool, true, false, _&&_, _||_, not}
+use mathlib.Core.Path.{_≡_, refl, sym, _∙_}
+use mathlib.Core.Bool.{Bool, true, false, _&&_, _||_}
 use mathlib.Core.List.{List, [], _∷_}
 use lib.ListN.{length, getD, take, drop}
 use Rattle.text.specs.Bytes.{bytes}
@@ -10,11 +10,11 @@ use Rattle.text.specs.Pick.{same, among, member}
 use Rattle.text.specs.Reading.{starts}
 use Rattle.text.proofs.Tests.{tests}
 use Rattle.text.proofs.Told.{told-yes, told-no}
+use Rattle.text.proofs.Parts.{rest-is, starts-within}
 use Rattle.rules.specs.Tape.{isLetter}
 use Rattle.rules.specs.Columns.{word, leftJustified}
 use Rattle.rules.specs.Names.{texts, isClass, isSeries, isReserved, lawfulField}
 use Rattle.words.specs.Word.{WordOf}
-use Rattle.words.proofs.Fields.{rest-is, front-length}
 
 -- ---- what a test answered
 
@@ -62,7 +62,7 @@ module _ (s : List ℕ) (q : Bool) (h : length s ≡ 0 → ⊥) where
 -- ---- a front, and what is tested of the rest
 
 pub front-room : (p s : List ℕ) (q : Bool) → q ≡ starts p s → q ≡ true → length p ≤ length s
-front-room p s q e y = front-length p s (sym e ∙ y)
+front-room p s q e y = starts-within p s (sym e ∙ y)
 
 pub front-and : (t : List ℕ → Bool) (s : List ℕ) (n : ℕ) (q r a : Bool) → q ≡ a → q ≡ true → r ≡ t (take (length s - n) (drop n s)) → r ≡ (a && t (drop n s))
 front-and t s n q r a e y k = k ∙ rw (← e, y, rest-is s n)

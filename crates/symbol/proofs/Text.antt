@@ -2,22 +2,24 @@
 use Prim.Native.Nat.{ℕ, zero, suc, _+_, _-_, _≤_, _<_}
 use native.Mathlib.Nat.{not-suc-le-zero}
 use native.Mathlib.Omega.{arith}
-use mathlib.Core.Path.{_≡_, refl, sym, ap, _∙_}
-use mathlib.Core.Bool.{Bool, true, false, _&&_, not}
+use mathlib.Core.Path.{_≡_, refl, sym, _∙_}
+use mathlib.Core.Bool.{Bool, true, false, not}
 use mathlib.Core.List.{List, [], _∷_, _++_}
-use lib.ListN.{length, getD, take, drop, length-append, length-take, length-drop}
-use lib.Seq.{length-take-le, take-at}
+use lib.ListN.{length, getD, take, drop, length-append, length-take}
+use lib.Seq.{length-take-le}
 use lib.Dec.{eqb}
-use borrow.Author.Tests.{eqb-true, eqb-false, ne-eqb, not-true}
+use borrow.Author.Tests.{eqb-false, ne-eqb, not-true}
 use Rattle.text.specs.Bytes.{bytes}
 use Rattle.text.specs.Pick.{opt, same}
-use Rattle.text.specs.Put.{put, Written}
+use Rattle.text.specs.Put.{Written}
 use Rattle.text.proofs.Writing.{written-nothing}
+use Rattle.text.proofs.Booleans.{and-false}
+use Rattle.text.proofs.Parts.{front, opt-short}
 use Rattle.rules.specs.Tape.{isRaised}
 use Rattle.rules.specs.Columns.{word}
 use Rattle.rules.specs.Names.{rootField, suffixField, temporaryField, appendageField, partText, nameText, hasTemporary, sameName}
+use Rattle.rules.proofs.Fields.{word-short, word-byte}
 use Rattle.words.specs.Word.{WordOf}
-use Rattle.words.proofs.Fields.{word-blank, word-byte, word-nothing}
 use Rattle.suffix.proofs.Lawful.{unlike-nothing}
 
 -- ---- a part: n bytes of its field, with the letter dot or without
@@ -82,14 +84,6 @@ temporary-yes s n w z = rw (unlike-nothing (word (temporaryField s)) (λ h. z (w
 
 -- ---- the whole name
 
-word-short : (s : List ℕ) → length (word s) ≤ length s
-word-short [] = rw word-nothing (omega arith)
-word-short (c ∷ s) = go (eqb c 32) refl (word-short s)
-  where
-    go : (b : Bool) → eqb c 32 ≡ b → length (word s) ≤ length s → length (word (c ∷ s)) ≤ suc (length s)
-    go true e ih = rw (word-blank c s (eqb-true c 32 e)) (omega arith)
-    go false e ih = rw (word-byte c s (eqb-false c 32 e)) (omega arith)
-
 part-short : (t : List ℕ) → length (partText t) ≤ length t + 1
 unfolding partText opt
 part-short [] = omega arith
@@ -98,11 +92,6 @@ part-short (c ∷ t) = go (isRaised c) refl
     go : (b : Bool) → isRaised c ≡ b → length (opt (not (isRaised c)) (bytes ".") ++ (c ∷ t)) ≤ suc (length t) + 1
     go true e = rw e (omega arith)
     go false e = rw e (omega arith)
-
-opt-short : (b : Bool) (t : List ℕ) → length (opt b t) ≤ length t
-unfolding opt
-opt-short true t = omega arith
-opt-short false t = omega arith
 
 -- the length is the sum of the parts'
 pub name-sum : (b : Bool) (s : List ℕ) → length (nameText b s) ≡ length (word (rootField s)) + length (partText (word (suffixField s))) + length (opt b (partText (word (temporaryField s)))) + length (partText (word (appendageField s)))
@@ -135,16 +124,9 @@ counted-short b s n h e = (e, omega (arith, name-short b s h))
 pub name-fits : (b : Bool) (s : List ℕ) → length s ≡ 19 → length (nameText b s) ≤ 24
 name-fits b s h = omega (arith, name-short b s h)
 
--- what a writer of the text t left, cut out again
-pub cut-out : (t b a : List ℕ) (n : ℕ) → Written t b a n → take n a ≡ t
-unfolding put
-cut-out t b a n w = rw (w .tape) (take-at t (drop (length t) b) n (sym (w .count-is)))
-
-pub cut-length : (t b a : List ℕ) (n : ℕ) → Written t b a n → n ≡ length (take n a)
-cut-length t b a n w = rw (cut-out t b a n w) (w .count-is)
-
+-- two texts that writers left, compared
 pub same-cut : (t u b c x y : List ℕ) (m n : ℕ) (r : Bool) → Written t b x m → Written u c y n → r ≡ same (take m x) (take n y) → r ≡ same t u
-same-cut t u b c x y m n r v w e = e ∙ rw (cut-out t b x m v, cut-out u c y n w)
+same-cut t u b c x y m n r v w e = e ∙ rw (front v, front w)
 
 -- ---- names that begin with different bytes
 
@@ -162,17 +144,13 @@ begins-two : (t : Bool) (c d : ℕ) (s : List ℕ) → (c ≡ 32 → ⊥) → (d
 unfolding nameText
 begins-two t c d s h k = rw (word-byte c (d ∷ take 4 s) h, word-byte d (take 4 s) k)
 
-and-shut : (x : Bool) → (x && false) ≡ false
-and-shut true = refl
-and-shut false = refl
-
 unlike-second : (t u : Bool) (a b : List ℕ) → 1 < length a → 1 < length b → (getD a 0 0 ≡ 32 → ⊥) → (getD b 0 0 ≡ 32 → ⊥) → (getD a 1 0 ≡ 32 → ⊥) → (getD b 1 0 ≡ 32 → ⊥) → (getD a 1 0 ≡ getD b 1 0 → ⊥) → same (nameText t a) (nameText u b) ≡ false
 unfolding same
 unlike-second t u [] b l m h k i j d = absurd (not-suc-le-zero l)
 unlike-second t u (x ∷ []) b l m h k i j d = absurd (omega arith)
 unlike-second t u (x ∷ y ∷ a) [] l m h k i j d = absurd (not-suc-le-zero m)
 unlike-second t u (x ∷ y ∷ a) (z ∷ []) l m h k i j d = absurd (omega arith)
-unlike-second t u (x ∷ y ∷ a) (z ∷ w ∷ b) l m h k i j d = rw (begins-two t x y a h i, begins-two u z w b k j, ne-eqb y w d) (and-shut (eqb x z))
+unlike-second t u (x ∷ y ∷ a) (z ∷ w ∷ b) l m h k i j d = rw (begins-two t x y a h i, begins-two u z w b k j, ne-eqb y w d) (and-false (eqb x z))
 
 apart-all : (a b : List ℕ) → ((t u : Bool) → same (nameText t a) (nameText u b) ≡ false) → sameName a b ≡ false
 unfolding sameName

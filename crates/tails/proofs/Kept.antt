@@ -1,13 +1,14 @@
 -- What a tail leaves as it was: the letters before the price, volume and price; a network that still explains the print did before. Assumes nothing.
-use Prim.Native.Nat.{ℕ, _+_, _≤_}
+use Prim.Native.Nat.{ℕ, _+_}
 use native.Mathlib.Omega.{arith}
-use mathlib.Core.Path.{_≡_, refl, sym, ap, _∙_}
-use mathlib.Core.Bool.{Bool, true, false, _&&_, _||_, not}
+use mathlib.Core.Path.{_≡_, refl, sym, _∙_}
+use mathlib.Core.Bool.{Bool, true, false, _&&_, _||_}
 use mathlib.Core.List.{List}
 use lib.ListN.{drop}
 use lib.Dec.{eqb, ltb}
 use Rattle.text.specs.Pick.{pick}
 use Rattle.text.proofs.Texts.{and-left, and-right}
+use Rattle.text.proofs.Booleans.{or-first}
 use Rattle.rules.specs.declared.Letters.{Letters}
 use Rattle.rules.specs.declared.Price.{Price}
 use Rattle.rules.specs.declared.Side.{Side}
@@ -110,13 +111,6 @@ unfolding pick
 chosen true st y h = h refl
 chosen false st y h = alike st st refl refl
 
-left : (a b : Bool) → a ≡ true → (a || b) ≡ true
-left a b e = rw e
-
-right : (a b : Bool) → b ≡ true → (a || b) ≡ true
-right true b e = refl
-right false b e = e
-
 never : false ≡ true → ⊥
 never e = let z : _≡_ {A = ℕ} 0 1 = cc in omega arith
 
@@ -147,7 +141,7 @@ module _ (s : List ℕ) (st : Taken) where
 
   rule-explained : Explained st (ruleAt s st)
   unfolding ruleAt takesRule further
-  rule-explained = chosen (takesRule s st) st _ (λ h. record { a-was = λ q. q; b-was = λ q. absurd (never q); some = λ q. left (st .a) false (and-left (st .a) _ (and-right (ltb (st .count) 4) _ h)) })
+  rule-explained = chosen (takesRule s st) st _ (λ h. record { a-was = λ q. q; b-was = λ q. absurd (never q); some = λ q. or-first (st .a) false (and-left (st .a) _ (and-right (ltb (st .count) 4) _ h)) })
 
   by-previous-explained : st .b ≡ true → (x : PriceAnswer) → Explained st (previousBy st x)
   unfolding previousBy further

@@ -1,9 +1,9 @@
 -- What a tail takes is what stands there: the text of its conditions. Assumes nothing.
-use Prim.Native.Nat.{ℕ, suc, _+_, _-_, _≤_, _<_}
+use Prim.Native.Nat.{ℕ, _+_, _-_, _≤_}
 use native.Mathlib.Nat.{sub-self}
 use native.Mathlib.Omega.{arith}
 use mathlib.Core.Path.{_≡_, refl, sym, ap, _∙_}
-use mathlib.Core.Bool.{Bool, true, false, _&&_, _||_, not}
+use mathlib.Core.Bool.{Bool, true, false, _||_, not}
 use mathlib.Core.List.{List, [], _∷_, _++_, append-assoc, append-nil}
 use lib.ListN.{length, take, drop, length-drop}
 use lib.Seq.{take-add, drop-drop}
@@ -12,8 +12,10 @@ use borrow.Author.Tests.{eqb-true, eqb-false}
 use Rattle.text.specs.Bytes.{bytes}
 use Rattle.text.specs.Pick.{pick, opt}
 use Rattle.text.specs.Decimal.{decimal}
-use Rattle.text.specs.Reading.{heads, starts}
-use Rattle.text.proofs.Texts.{and-left, and-right}
+use Rattle.text.specs.Reading.{starts}
+use Rattle.text.proofs.Texts.{and-right}
+use Rattle.text.proofs.Booleans.{or-true}
+use Rattle.text.proofs.Parts.{starts-front, starts-within}
 use Rattle.rules.specs.Price.{priceText}
 use Rattle.rules.specs.Conditions.{afterPrice, sellerText, previousText, atEnd}
 use Rattle.rules.specs.Side.{tailText}
@@ -24,12 +26,10 @@ use Rattle.scan.specs.declared.PriceRead.{PriceRead}
 use Rattle.scan.specs.declared.PriceAnswer.{PriceAnswer}
 use Rattle.scan.specs.declared.PriceAnswer.the-variants.{Priced, NoPrice}
 use Rattle.scan.specs.Digits.{digitsAt, zeroFirst}
-use Rattle.scan.specs.Price.{priceAt}
 use Rattle.scan.proofs.Text.{digits-decimal, price-text}
-use Rattle.volumescan.proofs.Shown.{starts-take, starts-within}
 use Rattle.tails.specs.declared.Taken.{Taken}
 use Rattle.tails.specs.Tail.{plusCash, plusAverage, plusStopped, plusSeller, plusRule, plusPrevious, sideWith, further, takesCash, cashAt, takesAverage, averageAt, takesStopped, stoppedAt, sellerDays, sellerBy, sellerAt, takesRule, ruleAt, previousIn, previousBy, previousAt, afterPriceAt, atEndAt, tailAt}
-use Rattle.tails.proofs.Steps.{SellerFound, seller-found, PreviousFound, previous-found, previous-length}
+use Rattle.tails.proofs.Steps.{seller-found, previous-found, previous-length}
 
 -- ---- texts in the part s from u on
 
@@ -59,7 +59,7 @@ starting : (s : List ℕ) (st : Taken) → st .used ≤ length s → Reads s (st
 starting s st h = record { from = omega arith; within = h; is = rw (sub-self (st .used)) }
 
 standing : (s p : List ℕ) (u : ℕ) → starts p (drop u s) ≡ true → 1 ≤ length p → Stands s u (length p) p
-standing s p u h n = record { room = omega (arith, starts-within p (drop u s) h, length-drop u s); text = starts-take p (drop u s) h }
+standing s p u h n = record { room = omega (arith, starts-within p (drop u s) h, length-drop u s); text = starts-front p (drop u s) h }
 
 -- a step by the test t; the text of a side is T before it, and N after it
 module _ (s : List ℕ) (u : ℕ) (st : Taken) (T N : Side → List ℕ) (x : Side) (n : ℕ) (p : List ℕ) (a b : Bool) where
@@ -105,10 +105,6 @@ pub record Bare (x : Letters) : Type 0 where
   pub no-r : x .r ≡ false
   pub no-j : x .j ≡ false
   pub no-g : x .g ≡ false
-
-or-true : (b : Bool) → (b || true) ≡ true
-or-true true = refl
-or-true false = refl
 
 module _ (s : List ℕ) (u : ℕ) (st : Taken) where
   cash-stands : takesCash s st ≡ true → Stands s (st .used) 2 (bytes ",c")
@@ -172,7 +168,7 @@ seller-text s h = go (starts (bytes "SELLER") s) (starts (bytes "0") (drop 6 s))
         → take (6 + (pick a (pick b (record { count = 0; value = 0 }) (digitsAt 3 (drop 6 s))) (record { count = 0; value = 0 })) .count) s ≡ bytes "SELLER" ++ decimal ((pick a (pick b (record { count = 0; value = 0 }) (digitsAt 3 (drop 6 s))) (record { count = 0; value = 0 })) .value)
     go true true e f l = absurd (omega arith)
     go true false e f l =
-        take-add 6 ((digitsAt 3 (drop 6 s)) .count) s ∙ rw (starts-take (bytes "SELLER") s e, digits-decimal 3 (drop 6 s) (digitsAt 3 (drop 6 s)) refl (zero-no (drop 6 s) f) l)
+        take-add 6 ((digitsAt 3 (drop 6 s)) .count) s ∙ rw (starts-front (bytes "SELLER") s e, digits-decimal 3 (drop 6 s) (digitsAt 3 (drop 6 s)) refl (zero-no (drop 6 s) f) l)
     go false b e f l = absurd (omega arith)
 
 module _ (s : List ℕ) (u : ℕ) (st : Taken) (b : st .side .letters .r ≡ false) (r : Reads s u st (stoppedText (st .side))) where
@@ -210,7 +206,7 @@ unfolding previousText
 previous-text s p h =
     let f = previous-found s p h in
     let n : 13 + p .used ≡ 11 + (p .used + 2) = omega arith in
-    rw (n, take-add 11 (p .used + 2) s, take-add (p .used) 2 (drop 11 s), starts-take (bytes ">>PREV.LAST") s (f .opens), price-text (drop 11 s) p (f .price), starts-take (bytes ">>") (drop (p .used) (drop 11 s)) (f .closes))
+    rw (n, take-add 11 (p .used + 2) s, take-add (p .used) 2 (drop 11 s), starts-front (bytes ">>PREV.LAST") s (f .opens), price-text (drop 11 s) p (f .price), starts-front (bytes ">>") (drop (p .used) (drop 11 s)) (f .closes))
     (sym (append-assoc (bytes ">>PREV.LAST") (priceText true (p .price)) (bytes ">>")))
 
 module _ (s : List ℕ) (u : ℕ) (st : Taken) (b : st .side .letters .g ≡ false) (r : Reads s u st (ruleText (st .side))) where

@@ -1,17 +1,18 @@
 -- Laws of the steps of a tail, in the form of the code's needs. Assumes nothing.
-use Prim.Native.Nat.{ℕ, suc, _+_, _-_, _^_, _≤_, _<_}
+use Prim.Native.Nat.{ℕ, _+_, _-_, _^_, _≤_, _<_}
 use native.Mathlib.Omega.{arith}
 use mathlib.Core.Path.{_≡_, refl, sym, ap, _∙_}
 use mathlib.Core.Bool.{Bool, true, false, _&&_, not}
-use mathlib.Core.List.{List, [], _∷_}
+use mathlib.Core.List.{List}
 use lib.ListN.{length, take, drop, length-drop}
-use lib.Seq.{take-all, drop-drop}
+use lib.Seq.{drop-drop}
 use lib.Dec.{eqb, ltb}
 use borrow.Author.Tests.{lt-ltb, le-ltb, eq-eqb, ne-eqb, not-true, not-false}
 use Rattle.text.specs.Bytes.{bytes}
 use Rattle.text.specs.Pick.{pick}
 use Rattle.text.specs.Reading.{starts}
 use Rattle.text.proofs.Tests.{pick-yes, pick-no}
+use Rattle.text.proofs.Parts.{rest-is, starts-within}
 use Rattle.rules.specs.declared.Letters.{Letters}
 use Rattle.rules.specs.declared.Price.{Price}
 use Rattle.rules.specs.declared.Side.{Side}
@@ -23,17 +24,13 @@ use Rattle.scan.specs.Digits.{digitsOnto, digitsAt}
 use Rattle.scan.specs.Price.{priceAt}
 use Rattle.scan.proofs.Bounds.{digits-count, digits-within}
 use Rattle.scan.proofs.Text.{price-within}
-use Rattle.volumescan.proofs.Shown.{starts-within}
 use Rattle.tails.specs.declared.Taken.{Taken}
 use Rattle.tails.specs.Tail.{plusCash, plusAverage, plusStopped, plusSeller, plusRule, plusPrevious, sideWith, further, takesCash, cashAt, takesAverage, averageAt, takesStopped, stoppedAt, sellerDays, sellerBy, sellerAt, takesRule, ruleAt, closedBy, previousIn, previousBy, previousAt, afterPriceAt, atEndAt, tailAt}
 
 -- ---- a text that stands at u
 
-part : (s : List ℕ) (u : ℕ) → take (length s - u) (drop u s) ≡ drop u s
-part s u = take-all (length s - u) (drop u s) (rw length-drop (omega arith))
-
 pub stood : (p s : List ℕ) (u : ℕ) (r : Bool) → r ≡ starts p (take (length s - u) (drop u s)) → r ≡ starts p (drop u s)
-stood p s u r e = e ∙ ap (starts p) (part s u)
+stood p s u r e = e ∙ ap (starts p) (rest-is s u)
 
 pub room : (p s : List ℕ) (u : ℕ) → starts p (drop u s) ≡ true → 1 ≤ length p → u + length p ≤ length s
 room p s u h n = omega (arith, starts-within p (drop u s) h, length-drop u s)
@@ -163,7 +160,7 @@ module _ (s : List ℕ) (u : ℕ) (r : Bool) (e : r ≡ starts (bytes "SELLER") 
 
     pub days-are : (d : Digits) → q ≡ false → d ≡ digitsOnto 3 0 0 (take (length s - (u + 6)) (drop (u + 6) s)) → d ≡ sellerDays (drop u s)
     unfolding sellerDays pick
-    days-are d k g = rw (← e, not-false r h, drop-drop 6 u s, ← f, k) (g ∙ ap (digitsOnto 3 0 0) (part s (u + 6)))
+    days-are d k g = rw (← e, not-false r h, drop-drop 6 u s, ← f, k) (g ∙ ap (digitsOnto 3 0 0) (rest-is s (u + 6)))
 
 -- the days found are three digits at most, behind SELLER
 pub record SellerFound (s : List ℕ) (d : Digits) : Type 0 where
@@ -248,7 +245,7 @@ unfolding closedBy
 closed-none t x f = rw f
 
 pub price-part : (s : List ℕ) (u : ℕ) (x : PriceAnswer) → x ≡ priceAt (take (length s - u) (drop u s)) → x ≡ priceAt (drop u s)
-price-part s u x e = e ∙ ap priceAt (part s u)
+price-part s u x e = e ∙ ap priceAt (rest-is s u)
 
 module _ (s : List ℕ) (u : ℕ) (r : Bool) (e : r ≡ starts (bytes ">>PREV.LAST") (drop u s)) where
   pub previous-none : not r ≡ true → NoPrice ≡ previousIn (drop u s)

@@ -1,16 +1,13 @@
 -- Room for a line, and a print within its tape. Assumes nothing.
 use Prim.Native.Nat.{ℕ, zero, suc, _+_, _-_, _^_, _≤_, _<_}
 use native.Mathlib.Omega.{arith}
-use mathlib.Core.Path.{_≡_, refl, ap}
+use mathlib.Core.Path.{_≡_, refl}
 use mathlib.Core.List.{List}
 use lib.ListN.{length, take, length-take}
-use Rattle.text.specs.Put.{Written}
-use Rattle.text.proofs.Writing.{length-put}
 use Rattle.reader.specs.declared.ReadAnswer.{ReadAnswer}
 use Rattle.reader.specs.Read.{readAt}
 use Rattle.reader.specs.Told.{lengthOf}
 use Rattle.reader.proofs.Bounds.{read-length}
-use Rattle.blocks.proofs.Fronts.{counted}
 use Rattle.told.specs.Lines.{toldLine}
 use Rattle.told.proofs.Short.{told-short}
 
@@ -30,10 +27,6 @@ module _ (tape : List ℕ) (place : ℕ) (r : ReadAnswer) (n : ℕ) (e : r ≡ r
       some : (m : ℕ) → (m ≡ 0 → ⊥) → length tape - (place + m) < length tape - place
       some zero y = absurd (y refl)
       some (suc m) y = omega arith
-
--- what was written is as long as was told
-pub written-front : (t b a : List ℕ) (n : ℕ) → Written t b a n → n ≡ length (take n a)
-written-front t b a n w = counted n a (omega (arith, ap length (w .tape), length-put t b (omega (arith, w .count-is, w .within)), w .within))
 
 pub front-most : (n m : ℕ) (xs : List ℕ) → n ≤ m → length (take n xs) ≤ m
 front-most n m xs h = omega (arith, length-take n xs, h)

@@ -1,21 +1,22 @@
 -- A volume comes back from its text, whatever the unit and the network. Assumes nothing.
-use Prim.Native.Nat.{ℕ, suc, zero, _+_, _*_, _-_, _/_, _%_, _≤_, _<_}
+use Prim.Native.Nat.{ℕ, _+_, _*_, _-_, _/_, _%_, _<_}
 use native.Mathlib.Omega.{arith}
 use mathlib.Core.Path.{_≡_, refl, ap, sym, _∙_}
 use mathlib.Core.List.{List, [], _∷_, _++_, append-assoc}
 use mathlib.Core.Bool.{Bool, true, false, _&&_, _||_, not}
-use mathlib.Core.Option.{Option, none, some}
-use lib.Dec.{leb, ltb, eqb}
-use borrow.Author.Tests.{ltb-true, ltb-false, eqb-true, eqb-false, lt-ltb, le-leb, lt-leb, eq-eqb}
+use mathlib.Core.Option.{none, some}
+use lib.Dec.{ltb, eqb}
+use borrow.Author.Tests.{ltb-true, ltb-false, eqb-true, lt-ltb, le-leb, lt-leb, not-false}
 use Rattle.text.specs.Bytes.{bytes}
 use Rattle.text.specs.Pick.{pick}
 use Rattle.text.specs.Decimal.{decimal, places}
-use Rattle.text.specs.Reading.{Read, found, heads, isDigit, starts, past}
+use Rattle.text.specs.Reading.{found, heads, isDigit, starts, past}
 use Rattle.text.proofs.Reading.{digit-yes, onto, places-head}
 use Rattle.rules.specs.Tape.{isUpper}
 use Rattle.rules.specs.Volume.{group, fullVolume, isRound, inShares, inHundreds, inTens, volumeText}
-use Rattle.volumes.specs.Reading.{Figure, digit, dot, stop, figure, figures, Mark, hundreds, tens, shares, markText, markAt, Shown, unsaid, said, shownAt, readVolume, sharesOf, shownOf, shownText}
+use Rattle.volumes.specs.Reading.{figure, figures, Mark, hundreds, tens, shares, markText, markAt, Shown, unsaid, said, shownAt, readVolume, sharesOf, shownOf, shownText}
 use Rattle.text.specs.Reading.{dotDigit}
+use Rattle.text.proofs.Booleans.{or-left}
 
 -- ---- figures
 
@@ -57,7 +58,7 @@ figures-volume n s h = go (ltb n 10000) (ltb n 1000000) refl refl
 
 -- ---- the text of what is shown
 
-small : (n : ℕ) → n < 10000 → fullVolume n ≡ decimal n
+pub small : (n : ℕ) → n < 10000 → fullVolume n ≡ decimal n
 unfolding fullVolume pick
 small n h = rw (lt-ltb n 10000 h)
 
@@ -126,14 +127,6 @@ shown-within network unit v h =
 pub volume-back : (network unit v : ℕ) (s : List ℕ) → v < 1000000000 → heads isUpper s ≡ false → markAt ((figures 0 s) .rest) ≡ none → readVolume (volumeText network unit v ++ s) ≡ found (shownOf network unit v) s
 volume-back network unit v s h u k = rw (volume-shown network unit v) (shown-back (shownOf network unit v) s (shown-within network unit v h) u k)
 
-or-false : (a b : Bool) → (a || b) ≡ false → a ≡ false
-or-false true b h = h
-or-false false b h = refl
-
-not-false : (a : Bool) → not a ≡ false → a ≡ true
-not-false true h = refl
-not-false false h = sym h
-
 pub shares-back : (network unit v : ℕ) → sharesOf (shownOf network unit v) ≡ v
 unfolding shownOf sharesOf isRound pick
 shares-back network unit v = go (not (isRound unit v) || (eqb network 66 && ltb unit 100)) (eqb unit 100) refl refl
@@ -155,7 +148,7 @@ shares-back network unit v = go (not (isRound unit v) || (eqb network 66 && ltb 
     ten false e = let l = ltb-false v 10000 e in rw (lt-leb v 999 (omega arith))
 
     round : (not (isRound unit v) || (eqb network 66 && ltb unit 100)) ≡ false → eqb unit 100 ≡ true → v % 100 ≡ 0
-    round e f = rw (← eqb-true unit 100 f) (eqb-true (v % unit) 0 (not-false (isRound unit v) (or-false (not (isRound unit v)) _ e)))
+    round e f = rw (← eqb-true unit 100 f) (eqb-true (v % unit) 0 (not-false (isRound unit v) (or-left (not (isRound unit v)) _ e)))
 
     go : (a b : Bool) → (not (isRound unit v) || (eqb network 66 && ltb unit 100)) ≡ a → eqb unit 100 ≡ b → sharesOf (pick a (said v shares) (pick b (pick (eqb v 100) unsaid (pick (ltb v 10000) (said (v / 100) hundreds) (said v hundreds))) (pick (ltb v 10000) (pick (eqb (v % 10) 0) (said (v / 10) tens) (said v shares)) (said v tens)))) ≡ v
     go true b e f = refl

@@ -1,43 +1,31 @@
 -- The volume that is read stands there, and the volumes that are explained print so. Assumes nothing.
 use Prim.Native.Nat.{ℕ, zero, suc, _+_, _-_, _*_, _/_, _%_, _≤_, _<_}
-use native.Mathlib.Nat.{le-of-suc-le-suc}
 use native.Mathlib.Omega.{arith}
-use mathlib.Core.Path.{_≡_, refl, sym, ap, _∙_}
+use mathlib.Core.Path.{_≡_, refl, sym, _∙_}
 use mathlib.Core.Bool.{Bool, true, false, _&&_, _||_, not}
-use mathlib.Core.List.{List, [], _∷_, _++_}
+use mathlib.Core.List.{List, [], _++_}
 use lib.ListN.{length, take, drop, length-drop}
 use lib.Seq.{take-add}
 use lib.Dec.{leb, ltb, eqb}
-use borrow.Author.Tests.{eqb-true, eqb-false, ltb-true, ltb-false, leb-true, leb-false, lt-ltb, le-ltb, le-leb, lt-leb, eq-eqb, ne-eqb}
+use borrow.Author.Tests.{eqb-true, ltb-true, leb-true, lt-ltb, le-ltb, eq-eqb, ne-eqb}
+use Rattle.volumes.proofs.VolumeBack.{small}
 use Rattle.text.specs.Bytes.{bytes}
 use Rattle.text.specs.Pick.{pick, same}
-use Rattle.text.specs.Decimal.{decimal}
 use Rattle.text.specs.Reading.{starts}
 use Rattle.text.proofs.Texts.{and-left, and-right, same-true}
+use Rattle.text.proofs.Booleans.{and-false, or-true}
+use Rattle.text.proofs.Parts.{starts-front, starts-within}
 use Rattle.rules.specs.Columns.{between}
 use Rattle.rules.specs.Volume.{fullVolume, isRound, inShares, inHundreds, inTens, volumeText}
 use Rattle.scan.specs.declared.Digits.{Digits}
 use Rattle.volumescan.specs.declared.Volume.{Volume}
 use Rattle.volumescan.specs.declared.Volume.the-variants.{Unsaid, Hundreds, Tens, Shares}
 use Rattle.volumescan.specs.declared.VolumeRead.{VolumeRead}
-use Rattle.volumescan.specs.declared.VolumeAnswer.{VolumeAnswer}
 use Rattle.volumescan.specs.declared.VolumeAnswer.the-variants.{Said, NoVolume}
-use Rattle.volumescan.specs.Volume.{figuresOnto, figuresAt, saidBy, markedBy, volumeAt, sharesIn, figuresOf, saidText, hundredsExplained, tensExplained, sharesExplained, explains}
+use Rattle.volumescan.specs.Volume.{figuresAt, saidBy, markedBy, volumeAt, sharesIn, figuresOf, saidText, hundredsExplained, tensExplained, sharesExplained, explains}
 use Rattle.volumescan.proofs.Volumes.{figures-within}
 
 -- ---- a text that stands at the front
-
-pub starts-take : (p s : List ℕ) → starts p s ≡ true → take (length p) s ≡ p
-unfolding starts
-starts-take [] s h = refl
-starts-take (a ∷ p) [] h = absurd (let z : _≡_ {A = ℕ} 0 1 = cc in omega arith)
-starts-take (a ∷ p) (c ∷ s) h = cc (eqb-true a c (and-left (eqb a c) (starts p s) h), starts-take p s (and-right (eqb a c) (starts p s) h))
-
-pub starts-within : (p s : List ℕ) → starts p s ≡ true → length p ≤ length s
-unfolding starts
-starts-within [] s h = omega arith
-starts-within (a ∷ p) [] h = absurd (let z : _≡_ {A = ℕ} 0 1 = cc in omega arith)
-starts-within (a ∷ p) (c ∷ s) h = omega (arith, starts-within p s (and-right (eqb a c) (starts p s) h))
 
 -- ---- the volume that is found at the front of s
 
@@ -63,7 +51,7 @@ module _ (s : List ℕ) (f : Digits) (e : f ≡ figuresAt s) (mark : List ℕ) (
             within = omega (arith, starts-within mark (drop (f .count) s) b, length-drop (f .count) s, figures-within s f e);
             used = omega (arith, n);
             small = rw counts (ltb-true (f .value) 1000000000 p);
-            text = rw (take-add (f .count) (length mark) s, same-true (take (f .count) s) (fullVolume (f .value)) q, starts-take mark (drop (f .count) s) b) (sym shows);
+            text = rw (take-add (f .count) (length mark) s, same-true (take (f .count) s) (fullVolume (f .value)) q, starts-front mark (drop (f .count) s) b) (sym shows);
           })
           g
       go true false p q g = absurd (let y : _≡_ {A = ℕ} 0 1 = cc in omega arith)
@@ -106,18 +94,6 @@ module _ (s : List ℕ) (v : VolumeRead) (h : volumeAt s ≡ Said v) where
   volume-text = volume-found s v h .text
 
 -- ---- the texts of a volume, by network and unit
-
-and-false : (b : Bool) → (b && false) ≡ false
-and-false true = refl
-and-false false = refl
-
-or-true : (b : Bool) → (b || true) ≡ true
-or-true true = refl
-or-true false = refl
-
-small : (n : ℕ) → n < 10000 → fullVolume n ≡ decimal n
-unfolding fullVolume pick
-small n h = rw (lt-ltb n 10000 h)
 
 module _ (network unit v : ℕ) where
   odd-text : isRound unit v ≡ false → volumeText network unit v ≡ inShares v

@@ -4,25 +4,25 @@ use native.Mathlib.Omega.{arith}
 use mathlib.Core.Path.{_≡_, refl, sym, ap, _∙_}
 use mathlib.Core.Bool.{Bool, true, false, _&&_, _||_, not}
 use mathlib.Core.List.{List, [], _∷_, _++_, append-assoc}
-use lib.ListN.{length, take, drop, length-append}
+use lib.ListN.{length, drop, length-append}
 use lib.Seq.{take-append-seam, drop-append-seam}
-use lib.Dec.{leb, ltb, eqb}
-use borrow.Author.Tests.{eqb-true, eqb-false, ltb-true, ltb-false, lt-ltb, le-ltb, le-leb, lt-leb, eq-eqb, ne-eqb}
+use lib.Dec.{ltb, eqb}
+use borrow.Author.Tests.{eqb-true, eqb-false, ltb-true, ltb-false, lt-ltb, le-leb, eq-eqb, ne-eqb, not-false}
 use Rattle.text.specs.Bytes.{bytes}
-use Rattle.text.specs.Pick.{pick, among, same}
-use Rattle.text.specs.Reading.{Read, found, heads, isDigit, dotDigit, starts}
-use Rattle.text.proofs.Texts.{and-left, and-right, same-refl}
+use Rattle.text.specs.Pick.{pick, among}
+use Rattle.text.specs.Reading.{found, heads, isDigit, dotDigit, starts}
+use Rattle.text.proofs.Texts.{same-refl}
+use Rattle.text.proofs.Booleans.{or-left, or-right, or-true}
 use Rattle.rules.specs.Columns.{between}
 use Rattle.rules.specs.Line.{isNetwork, isUnit}
 use Rattle.rules.specs.Volume.{fullVolume, isRound, volumeText}
 use Rattle.volumes.specs.Reading.{Figure, digit, dot, stop, figure, figures, Mark, hundreds, tens, shares, markText, Shown, unsaid, said, sharesOf, shownOf, shownText}
-use Rattle.volumes.proofs.VolumeBack.{figures-volume, figures-stop, volume-shown, shares-back, Within, said-within, unsaid-within, shown-within}
+use Rattle.volumes.proofs.VolumeBack.{figures-volume, figures-stop, volume-shown, shares-back, Within, said-within, shown-within}
 use Rattle.scan.specs.declared.Digits.{Digits}
 use Rattle.volumescan.specs.declared.Volume.{Volume}
 use Rattle.volumescan.specs.declared.Volume.the-variants.{Unsaid, Hundreds, Tens, Shares}
 use Rattle.volumescan.specs.declared.VolumeRead.{VolumeRead}
-use Rattle.volumescan.specs.declared.VolumeAnswer.{VolumeAnswer}
-use Rattle.volumescan.specs.declared.VolumeAnswer.the-variants.{Said, NoVolume}
+use Rattle.volumescan.specs.declared.VolumeAnswer.the-variants.{Said}
 use Rattle.volumescan.specs.Volume.{figuresOnto, figuresAt, saidBy, markedBy, volumeAt, sharesIn, hundredsExplained, tensExplained, sharesExplained, explains}
 use Rattle.volumescan.proofs.Volumes.{volume-long}
 
@@ -140,22 +140,6 @@ shares-of unsaid = refl
 shares-of (said n hundreds) = refl
 shares-of (said n tens) = refl
 shares-of (said n shares) = refl
-
-or-left : (a b : Bool) → (a || b) ≡ false → a ≡ false
-or-left true b h = h
-or-left false b h = refl
-
-or-right : (a b : Bool) → (a || b) ≡ false → b ≡ false
-or-right true b h = cc
-or-right false b h = h
-
-or-true : (b : Bool) → (b || true) ≡ true
-or-true true = refl
-or-true false = refl
-
-not-false : (b : Bool) → not b ≡ false → b ≡ true
-not-false true h = refl
-not-false false h = sym h
 
 unit-below : (unit : ℕ) → isUnit unit ≡ true → (unit ≡ 100 → ⊥) → unit < 100
 unfolding isUnit among

@@ -7,22 +7,23 @@ use mathlib.Core.Path.{_≡_, refl, sym, ap, _∙_}
 use mathlib.Core.Bool.{Bool, true, false, _&&_, _||_, not}
 use mathlib.Core.List.{List, [], _∷_, _++_}
 use lib.ListN.{length, getD, take, drop, drop-of-length-le, length-drop, length-append}
-use lib.Seq.{drop-cons, take-all, take-at, length-take-le}
+use lib.Seq.{drop-cons, take-all, take-at}
 use lib.Dec.{leb, ltb, eqb}
-use borrow.Author.Tests.{lt-leb, le-leb, lt-ltb, le-ltb, eq-eqb, ne-eqb, ltb-true, ltb-false, eqb-true, not-true, not-false}
+use borrow.Author.Tests.{lt-leb, le-leb, lt-ltb, le-ltb, ne-eqb, ltb-true, ltb-false, eqb-true, not-true, not-false}
 use Rattle.text.specs.Bytes.{bytes}
 use Rattle.text.specs.Pick.{pick, same}
 use Rattle.text.specs.Put.{put, Written}
 use Rattle.text.specs.Reading.{heads, isDigit, starts}
 use Rattle.text.specs.Decimal.{decimal}
-use Rattle.text.proofs.Texts.{and-left, and-right}
+use Rattle.text.proofs.Texts.{and-left}
 use Rattle.text.proofs.Decimal.{length-decimal}
+use Rattle.text.proofs.Booleans.{or-left, or-right}
 use Rattle.rules.specs.Volume.{group, fullVolume}
-use Rattle.volumes.specs.Reading.{Figure, digit, dot, stop, figure}
+use Rattle.volumes.specs.Reading.{digit, dot, figure}
 use Rattle.volumes.proofs.Lengths.{group-length}
 use Rattle.scan.specs.declared.Digits.{Digits}
 use Rattle.volumescan.specs.declared.Volume.{Volume}
-use Rattle.volumescan.specs.declared.Volume.the-variants.{Unsaid, Hundreds, Tens, Shares}
+use Rattle.volumescan.specs.declared.Volume.the-variants.{Hundreds, Tens, Shares}
 use Rattle.volumescan.specs.declared.VolumeAnswer.{VolumeAnswer}
 use Rattle.volumescan.specs.declared.VolumeAnswer.the-variants.{Said, NoVolume}
 use Rattle.volumescan.specs.Volume.{isFigure, figureOnto, figuresOnto, saidBy, markedBy, volumeAt}
@@ -73,14 +74,6 @@ module _ (a c : ℕ) where
 
 or-true : (a b : Bool) → (a || b) ≡ true → a ≡ false → b ≡ true
 or-true a b h e = rw e at h
-
-or-left : (a b : Bool) → (a || b) ≡ false → a ≡ false
-or-left true b h = h
-or-left false b h = refl
-
-or-right : (a b : Bool) → (a || b) ≡ false → b ≡ false
-or-right true b h = cc
-or-right false b h = h
 
 -- the first byte is a digit, or a figure dot before a digit
 module _ (k a j c : ℕ) (s : List ℕ) where
@@ -216,13 +209,6 @@ module _ (s : List ℕ) (f : Digits) (v : Volume) (k : ℕ) where
     pub said-no : r ≡ false → NoVolume ≡ saidBy s f v k
     unfolding saidBy pick
     said-no q = rw (lt-ltb (f .value) 1000000000 h, asked, q)
-
-pub counted : (n : ℕ) (xs : List ℕ) → n ≤ length xs → n ≡ length (take n xs)
-counted n xs h = sym (length-take-le n xs h)
-
-pub front-length : {t b a : List ℕ} {n : ℕ} → Written t b a n → n ≡ length (take n a)
-unfolding put
-front-length {t} {b} {a} {n} w = w .count-is ∙ ap length (sym (ap (take n) (w .tape) ∙ take-at t _ n (sym (w .count-is))))
 
 -- ---- the mark behind the figures f
 

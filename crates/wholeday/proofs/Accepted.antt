@@ -1,29 +1,27 @@
 -- What an accepted line owes, from the refusals that did not stop it. Assumes nothing.
 use Prim.Native.Nat.{ℕ}
-use mathlib.Core.Path.{_≡_, refl, sym, ap, _∙_}
-use mathlib.Core.Bool.{Bool, true, false, _&&_, _||_, not}
-use mathlib.Core.List.{List, []}
+use mathlib.Core.Path.{_≡_, ap}
+use mathlib.Core.Bool.{Bool, true, false, _&&_, not}
+use mathlib.Core.List.{List}
 use mathlib.Core.Option.{Option, none, some}
-use lib.Dec.{leb, ltb, eqb}
+use lib.Dec.{ltb, eqb}
 use lib.ListN.{length}
-use borrow.Author.Tests.{not-true, not-false}
-use native.Mathlib.Omega.{arith}
-use Rattle.text.specs.Pick.{pick}
-use Rattle.text.proofs.Texts.{and-left, and-right}
+use borrow.Author.Tests.{not-false}
+use Rattle.text.proofs.Texts.{and-left}
 use Rattle.rules.specs.Columns.{column}
 use Rattle.rules.specs.Conditions.{onNetwork}
-use Rattle.rules.specs.Line.{isShaped, isKind, isFormed, isRanged, lineOf, ofKind, nameColumns}
+use Rattle.rules.specs.Line.{isShaped, isKind, isFormed, isRanged, lineOf, nameColumns}
 use Rattle.rules.specs.Refusal.{refuse}
-use Rattle.rules.specs.Day.{Day, printOf, securityAt, isEntered, takenName, stateRefusal, dateRefusal, listingRefusal, tradeRefusal, correctionRefusal, undated, refusalOf}
+use Rattle.rules.specs.Day.{Day, printOf, securityAt, isEntered, takenName, stateRefusal, listingRefusal, tradeRefusal, correctionRefusal, undated, refusalOf}
 use Rattle.rules.specs.declared.Trade.{Trade}
 use Rattle.rules.specs.declared.Line.{Line}
 use Rattle.rules.specs.declared.Line.the-variants.{Dated, Listed, Moded, Leveled, Stepped, Traded, Cancelled, Erred, Corrected}
 use Rattle.rules.specs.declared.Refusal.{Refusal}
-use Rattle.rules.specs.declared.Refusal.the-variants.{Shape, Kind, NoDate, Form, Value, NotEntered, InUse, Name, SameName, Conditions, Unmatched, DateOrder, Room}
-use Rattle.rules.specs.declared.Security.{Security}
+use Rattle.rules.specs.declared.Refusal.the-variants.{Shape, Kind, NoDate, Form, Value, NotEntered, InUse, Name, SameName, Conditions, Unmatched, Room}
+use Rattle.rules.proofs.Days.{passed}
 use Rattle.named.proofs.Root.{false-true}
-use Rattle.wholeday.specs.Lawful.{LawfulListing, LawfulTrade, LawfulCorrection, LawfulLine}
-use Rattle.wholeday.specs.Fine.{FineListing, FineTrade, FineCorrection, Fine}
+use Rattle.wholeday.specs.Lawful.{LawfulTrade, LawfulLine}
+use Rattle.wholeday.specs.Accepted.{AcceptedTrade, Accepted}
 use Rattle.wholeday.proofs.Lines.{lawful-line}
 
 -- nothing stopped it
@@ -35,15 +33,10 @@ pub some-none : (r : Refusal) → some r ≡ none → ⊥
 unfolding isNone
 some-none r h = false-true (ap isNone h)
 
-passed : (b : Bool) (r : Refusal) (later : Option Refusal) → refuse b r later ≡ none → (b ≡ false) × (later ≡ none)
-unfolding refuse pick
-passed true r later h = absurd (some-none r h)
-passed false r later h = (refl, h)
-
 -- ---- the refusals by the state
 
 module _ (day : Day) (name : List ℕ) (later : Option Refusal) where
-  fine-trade : (t : Trade) → LawfulTrade t → tradeRefusal (securityAt day (t .security)) t later ≡ none → FineTrade day t
+  fine-trade : (t : Trade) → LawfulTrade t → tradeRefusal (securityAt day (t .security)) t later ≡ none → AcceptedTrade day t
   unfolding tradeRefusal
   fine-trade t h e =
       let s = securityAt day (t .security) in
@@ -52,8 +45,8 @@ module _ (day : Day) (name : List ℕ) (later : Option Refusal) where
       let c = passed (not (t .matched)) Unmatched _ (b .1) in
       record { low = h .low; high = h .high; entered-there = not-false (isEntered s) (a .0); side-is = h .side-is (and-left (t .lawful) _ (not-false (t .lawful && onNetwork (s .network) (t .side .letters)) (b .0))) (not-false (t .matched) (c .0)) }
 
-  fine-state : (l : Line) → LawfulLine name l → stateRefusal day name l later ≡ none → Fine day name l
-  unfolding stateRefusal LawfulLine Fine listingRefusal correctionRefusal
+  fine-state : (l : Line) → LawfulLine name l → stateRefusal day name l later ≡ none → Accepted day name l
+  unfolding stateRefusal LawfulLine Accepted listingRefusal correctionRefusal
   fine-state (Dated n) h e = tt
   fine-state (Listed l) h e =
       let a = passed (isEntered (securityAt day (l .number))) InUse _ e in
@@ -96,7 +89,7 @@ module _ (day : Day) (line : List ℕ) (room : ℕ) (free : refusalOf day line r
   pub dated-or-date : (not (eqb (column 1 line) 68) && undated day) ≡ false
   dated-or-date = after-kind .0
 
-  pub fine : Fine day (nameColumns line) (lineOf line)
+  pub fine : Accepted day (nameColumns line) (lineOf line)
   unfolding isFormed isRanged lineOf
   fine =
       let a = passed (not (isFormed line)) Form _ (after-kind .1) in

@@ -3,14 +3,15 @@ use Prim.Native.Nat.{ℕ, zero, suc, _-_, _≤_, _<_}
 use native.Mathlib.Nat.{le-of-suc-le-suc, not-suc-le-zero}
 use native.Mathlib.Omega.{arith}
 use mathlib.Core.Path.{_≡_, refl, sym, ap, _∙_, subst}
-use mathlib.Core.Logic.{_⊎_, inl, inr, ⊎-elim}
-use mathlib.Core.Bool.{Bool, true, false, _&&_, _||_, not}
+use mathlib.Core.Logic.{_⊎_, ⊎-elim}
+use mathlib.Core.Bool.{Bool, true, false, _&&_, _||_}
 use mathlib.Core.List.{List, [], _∷_}
 use lib.Dec.{eqb}
 use lib.ListN.{length, getD, set, replicate, length-set, length-replicate, getD-replicate}
 use lib.Seq.{getD-set-same, getD-set-other}
 use borrow.Author.Tests.{eqb-true, eqb-false, eq-eqb, ne-eqb}
 use Rattle.text.specs.Pick.{same}
+use Rattle.text.proofs.Booleans.{neither, same-or-not}
 use Rattle.rules.specs.Names.{nameText, sameName}
 use Rattle.rules.specs.Day.{Day, vacant, noName, cleared, fresh, securityAt, isEntered, takenName, entered, withSettings, withSecurity, afterLine}
 use Rattle.rules.specs.Trade.{afterTrade}
@@ -20,10 +21,11 @@ use Rattle.rules.specs.declared.Settings.{Settings}
 use Rattle.rules.specs.declared.Security.{Security}
 use Rattle.rules.specs.declared.Line.{Line}
 use Rattle.rules.specs.declared.Line.the-variants.{Dated, Listed, Moded, Leveled, Stepped, Traded, Cancelled, Erred, Corrected}
+use Rattle.rules.proofs.Days.{entered-alike}
 use Rattle.named.specs.Plain.{NamePlain}
 use Rattle.named.proofs.Root.{false-true}
-use Rattle.wholeday.specs.Fine.{FineListing, FineTrade, FineCorrection, Fine}
-use Rattle.wholeday.specs.Kept.{atPlace, named, Kept, Later}
+use Rattle.wholeday.specs.Accepted.{AcceptedListing, Accepted}
+use Rattle.wholeday.specs.Invariant.{atPlace, named, Invariant, Later}
 
 -- ---- names are the same either way round
 
@@ -58,35 +60,27 @@ name-turn m n =
 
 -- ---- a free name is unlike every entered one
 
-or-false : (a b : Bool) → (a || b) ≡ false → (a ≡ false) × (b ≡ false)
-or-false true b h = absurd (false-true (sym h))
-or-false false b h = (refl, h)
-
 free-there : (name : List ℕ) (l : List Security) (names : List (List ℕ)) → takenName name l names ≡ false → length l ≡ length names → (j : ℕ) → j < length l → isEntered (getD l j vacant) ≡ true → sameName name (getD names j noName) ≡ false
 unfolding takenName
 free-there name [] names h e j k q = absurd (not-suc-le-zero k)
 free-there name (s ∷ l) [] h e j k q = absurd (omega arith)
-free-there name (s ∷ l) (n ∷ names) h e zero k q = let p = or-false (isEntered s && sameName name n) _ h in and-no (isEntered s) (sameName name n) q (p .0)
+free-there name (s ∷ l) (n ∷ names) h e zero k q = let p = neither (isEntered s && sameName name n) _ h in and-no (isEntered s) (sameName name n) q (p .0)
   where
     and-no : (a b : Bool) → a ≡ true → (a && b) ≡ false → b ≡ false
     and-no true b e h = h
     and-no false b e h = absurd (false-true e)
-free-there name (s ∷ l) (n ∷ names) h e (suc j) k q = free-there name l names (or-false (isEntered s && sameName name n) _ h .1) (omega arith) j (le-of-suc-le-suc k) q
+free-there name (s ∷ l) (n ∷ names) h e (suc j) k q = free-there name l names (neither (isEntered s && sameName name n) _ h .1) (omega arith) j (le-of-suc-le-suc k) q
 
 -- ---- a change that leaves units, networks and names
 
-entered-alike : (s t : Security) → s .unit ≡ t .unit → isEntered s ≡ isEntered t
-unfolding isEntered
-entered-alike s t e = rw e
-
-module _ (day e : Day) (k : Kept day) (places : length (e .securities) ≡ 512) (names : e .names ≡ day .names) (units : (i : ℕ) → i < 512 → atPlace e i .unit ≡ atPlace day i .unit) (networks : (i : ℕ) → i < 512 → atPlace e i .network ≡ atPlace day i .network) where
+module _ (day e : Day) (k : Invariant day) (places : length (e .securities) ≡ 512) (names : e .names ≡ day .names) (units : (i : ℕ) → i < 512 → atPlace e i .unit ≡ atPlace day i .unit) (networks : (i : ℕ) → i < 512 → atPlace e i .network ≡ atPlace day i .network) where
   name-is : (i : ℕ) → named e i ≡ named day i
   name-is i = ap (λ (l : List (List ℕ)). getD l i noName) names
 
   entered-is : (i : ℕ) → i < 512 → isEntered (atPlace e i) ≡ isEntered (atPlace day i)
   entered-is i h = entered-alike (atPlace e i) (atPlace day i) (units i h)
 
-  kept-alike : Kept e
+  kept-alike : Invariant e
   kept-alike = record {
     places = places;
     lines = ap length names ∙ k .lines;
@@ -102,15 +96,8 @@ module _ (day e : Day) (k : Kept day) (places : length (e .securities) ≡ 512) 
     same-name = λ i h q. name-is i;
   }
 
-same-or-not : (i j : ℕ) → (i ≡ j) ⊎ (i ≡ j → ⊥)
-same-or-not i j = go (eqb i j) refl
-  where
-    go : (b : Bool) → eqb i j ≡ b → (i ≡ j) ⊎ (i ≡ j → ⊥)
-    go true e = inl (eqb-true i j e)
-    go false e = inr (eqb-false i j e)
-
 -- one security changed, under the same unit and network
-module _ (day : Day) (k : Kept day) (i : ℕ) (low : 1 ≤ i) (high : i ≤ 512) (s : Security) (unit-is : s .unit ≡ (securityAt day i) .unit) (network-is : s .network ≡ (securityAt day i) .network) where
+module _ (day : Day) (k : Invariant day) (i : ℕ) (low : 1 ≤ i) (high : i ≤ 512) (s : Security) (unit-is : s .unit ≡ (securityAt day i) .unit) (network-is : s .network ≡ (securityAt day i) .network) where
   changed : (j : ℕ) → (atPlace (withSecurity day i s) j .unit ≡ atPlace day j .unit) × (atPlace (withSecurity day i s) j .network ≡ atPlace day j .network)
   changed j = ⊎-elim
       (λ (e : j ≡ i - 1).
@@ -122,7 +109,7 @@ module _ (day : Day) (k : Kept day) (i : ℕ) (low : 1 ≤ i) (high : i ≤ 512)
       (ap (λ (x : Security). x .unit) q, ap (λ (x : Security). x .network) q))
       (same-or-not j (i - 1))
 
-  kept-changed : Kept (withSecurity day i s)
+  kept-changed : Invariant (withSecurity day i s)
   kept-changed = kept-alike day (withSecurity day i s) k (length-set (day .securities) (i - 1) s ∙ k .places) refl (λ j h. changed j .0) (λ j h. changed j .1)
 
   later-changed : Later day (withSecurity day i s)
@@ -134,7 +121,7 @@ is-entered : (l : Listing) → 1 ≤ l .unit → isEntered (entered l) ≡ true
 unfolding isEntered entered
 is-entered l h = rw (ne-eqb (l .unit) 0 (omega arith))
 
-module _ (day : Day) (k : Kept day) (name : List ℕ) (l : Listing) (f : FineListing day name l) where
+module _ (day : Day) (k : Invariant day) (name : List ℕ) (l : Listing) (f : AcceptedListing day name l) where
   abbrev p : ℕ
   p = l .number - 1
 
@@ -192,7 +179,7 @@ module _ (day : Day) (k : Kept day) (name : List ℕ) (l : Listing) (f : FineLis
       (same-or-not j p))
       (same-or-not i p)
 
-  kept-entered : Kept e
+  kept-entered : Invariant e
   kept-entered = record {
     places = length-set (day .securities) p (entered l) ∙ k .places;
     lines = length-set (day .names) p name ∙ k .lines;
@@ -214,7 +201,7 @@ pub no-security : isEntered vacant ≡ false
 unfolding isEntered vacant
 no-security = refl
 
-pub kept-cleared : (date : ℕ) → Kept (cleared date)
+pub kept-cleared : (date : ℕ) → Invariant (cleared date)
 unfolding cleared
 kept-cleared date = record {
   places = length-replicate 512 vacant;
@@ -250,11 +237,11 @@ NotDate (Cancelled t) = Unit {0}
 NotDate (Erred t) = Unit {0}
 NotDate (Corrected c) = Unit {0}
 
-settings-alike : (day : Day) (st : Settings) → Kept day → Kept (withSettings day st) × Later day (withSettings day st)
+settings-alike : (day : Day) (st : Settings) → Invariant day → Invariant (withSettings day st) × Later day (withSettings day st)
 settings-alike day st k = (kept-alike day (withSettings day st) k (k .places) refl (λ i h. refl) (λ i h. refl), later-alike day (withSettings day st) k (k .places) refl (λ i h. refl) (λ i h. refl))
 
-pub kept-line : (day : Day) (name : List ℕ) (l : Line) → Kept day → Fine day name l → NotDate l → Kept (afterLine day name l) × Later day (afterLine day name l)
-unfolding afterLine Fine NotDate afterTrade afterCorrection
+pub kept-line : (day : Day) (name : List ℕ) (l : Line) → Invariant day → Accepted day name l → NotDate l → Invariant (afterLine day name l) × Later day (afterLine day name l)
+unfolding afterLine Accepted NotDate afterTrade afterCorrection
 kept-line day name (Dated n) k f z = absurd z
 kept-line day name (Listed l) k f z = (kept-entered day k name l f, later-entered day k name l f)
 kept-line day name (Moded m) k f z = settings-alike day _ k
@@ -267,7 +254,7 @@ kept-line day name (Corrected c) k f z = (kept-changed day k (c .security) (f .l
 
 -- ---- which places are entered
 
-module _ (day : Day) (k : Kept day) (name : List ℕ) (l : Listing) (f : FineListing day name l) where
+module _ (day : Day) (k : Invariant day) (name : List ℕ) (l : Listing) (f : AcceptedListing day name l) where
   pub entered-now : isEntered (atPlace (afterLine day name (Listed l)) (l .number - 1)) ≡ true
   unfolding afterLine
   entered-now = is-new day k name l f
@@ -292,8 +279,8 @@ NotListed (Erred t) = Unit {0}
 NotListed (Corrected c) = Unit {0}
 
 -- other lines enter none
-pub entered-same : (day : Day) (name : List ℕ) (l : Line) → Kept day → Fine day name l → NotDate l → NotListed l → (j : ℕ) → isEntered (atPlace (afterLine day name l) j) ≡ isEntered (atPlace day j)
-unfolding afterLine Fine NotDate NotListed afterTrade afterCorrection
+pub entered-same : (day : Day) (name : List ℕ) (l : Line) → Invariant day → Accepted day name l → NotDate l → NotListed l → (j : ℕ) → isEntered (atPlace (afterLine day name l) j) ≡ isEntered (atPlace day j)
+unfolding afterLine Accepted NotDate NotListed afterTrade afterCorrection
 entered-same day name (Dated n) k f z y j = absurd z
 entered-same day name (Listed l) k f z y j = absurd y
 entered-same day name (Moded m) k f z y j = refl

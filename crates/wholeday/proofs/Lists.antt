@@ -1,33 +1,30 @@
 -- Lists of calls after the date line: each call owes what the decoder asks for, and the names are those of the accepted S lines. Assumes nothing.
-use Prim.Native.Nat.{ℕ, zero, suc, _+_, _-_, _≤_, _<_}
+use Prim.Native.Nat.{ℕ, _+_, _-_, _<_}
 use native.Mathlib.Omega.{arith}
 use mathlib.Core.Path.{_≡_, refl, sym, ap, _∙_, subst}
 use mathlib.Core.Logic.{_⊎_, inl, inr, ⊎-elim}
-use mathlib.Core.Bool.{Bool, true, false, _&&_, _||_, not}
+use mathlib.Core.Bool.{Bool, true, false, _&&_, _||_}
 use mathlib.Core.List.{List, [], _∷_, _++_}
 use mathlib.Core.Option.{Option, none, some}
 use lib.Dec.{eqb}
-use lib.ListN.{length, getD, set}
-use borrow.Author.Tests.{eqb-true, eq-eqb}
+use borrow.Author.Tests.{eqb-true}
 use Rattle.text.specs.Pick.{pick, same, member}
-use Rattle.text.proofs.Texts.{and-left, and-right, same-true}
+use Rattle.text.proofs.Texts.{and-left, and-right, same-true, same-refl}
 use Rattle.rules.specs.Columns.{column}
 use Rattle.rules.specs.Line.{lineOf, ofKind, nameColumns, listingOf}
-use Rattle.rules.specs.Day.{Day, Call, vacant, noName, cleared, fresh, isEntered, printOf, refusalOf, afterLine, tapeOf, after}
-use Rattle.rules.specs.Shown.{Fact, factOf, shownBy, entries, shown}
+use Rattle.rules.specs.Day.{Day, Call, isEntered, printOf, refusalOf, afterLine, tapeOf, after}
+use Rattle.rules.specs.Shown.{factOf, shownBy}
 use Rattle.rules.specs.Premise.{falls, callFalls, Premise}
 use Rattle.rules.specs.declared.Line.{Line}
-use Rattle.rules.specs.declared.Line.the-variants.{Dated, Listed}
+use Rattle.rules.specs.declared.Line.the-variants.{Listed}
 use Rattle.rules.specs.declared.Parsed.{Parsed}
 use Rattle.rules.specs.declared.Refusal.{Refusal}
-use Rattle.decoder.specs.Carried.{carriedOf}
-use Rattle.decoder.specs.Decode.{Names}
 use Rattle.named.proofs.Root.{false-true}
-use Rattle.wholeday.specs.Fine.{FineListing, Fine}
-use Rattle.wholeday.specs.Kept.{atPlace, named, Kept, Later}
-use Rattle.wholeday.specs.Owed.{Silent, Owed, AllOwed, tape, dayAfter}
+use Rattle.wholeday.specs.Accepted.{AcceptedListing, Accepted}
+use Rattle.wholeday.specs.Invariant.{atPlace, named, Invariant, Later}
+use Rattle.wholeday.specs.Decodes.{Decodes, AllDecode, dayAfter}
 use Rattle.wholeday.specs.Claim.{accepts, acceptedOf}
-use Rattle.wholeday.proofs.Accepted.{fine, dated-or-date}
+use Rattle.wholeday.proofs.Accepted.{fine}
 use Rattle.wholeday.proofs.Kept.{NotDate, NotListed, kept-line, later-same, later-trans, entered-now, named-now, entered-before, entered-same, place-or-not}
 use Rattle.wholeday.proofs.Prints.{line-owed}
 
@@ -102,22 +99,22 @@ not-date kind line e =
     either _ _ _ e
     (both-not _ _ _ tt (both-not _ _ _ tt (both-not _ _ _ tt (both-not _ _ _ tt (both-not _ _ _ tt (both-not _ _ _ tt (both-not _ _ _ tt tt)))))))
 
-module _ (day : Day) (c : Call) (k : Kept day) (n : (accepts day c && eqb (column 1 (c .line)) 68) ≡ false) where
+module _ (day : Day) (c : Call) (k : Invariant day) (n : (accepts day c && eqb (column 1 (c .line)) 68) ≡ false) where
   other-kind : refusalOf day (c .line) (c .room) ≡ none → NotDate (lineOf (c .line))
   unfolding lineOf
   other-kind e = not-date (column 1 (c .line)) (c .line) (ap (λ (b : Bool). b && eqb (column 1 (c .line)) 68) (sym (accepted-yes day c e)) ∙ n)
 
-  kept-call : Kept (after day c) × Later day (after day c)
+  kept-call : Invariant (after day c) × Later day (after day c)
   kept-call = go (refusalOf day (c .line) (c .room)) refl
     where
-      go : (o : Option Refusal) → refusalOf day (c .line) (c .room) ≡ o → Kept (after day c) × Later day (after day c)
+      go : (o : Option Refusal) → refusalOf day (c .line) (c .room) ≡ o → Invariant (after day c) × Later day (after day c)
       go (some r) e = rw (after-refused day c r e) (k, later-same day)
       go none e = rw (after-taken day c e) (kept-line day (nameColumns (c .line)) (lineOf (c .line)) k (fine day (c .line) (c .room) e) (other-kind e))
 
-  call-owed : (e : Day) → Kept e → Later (after day c) e → callFalls day c ≡ false → Owed (e .names) day (after day c) (tapeOf day c) (shownBy day c)
+  call-owed : (e : Day) → Invariant e → Later (after day c) e → callFalls day c ≡ false → Decodes (e .names) day (after day c) (tapeOf day c) (shownBy day c)
   call-owed e z y w = go (refusalOf day (c .line) (c .room)) refl
     where
-      go : (o : Option Refusal) → refusalOf day (c .line) (c .room) ≡ o → Owed (e .names) day (after day c) (tapeOf day c) (shownBy day c)
+      go : (o : Option Refusal) → refusalOf day (c .line) (c .room) ≡ o → Decodes (e .names) day (after day c) (tapeOf day c) (shownBy day c)
       go (some r) q = rw (after-refused day c r q, tape-refused day c r q, shown-refused day c r q) (record { no-text = refl; stays = refl })
       go none q =
           rw (after-taken day c q, tape-taken day c q, shown-taken day c q)
@@ -146,7 +143,7 @@ module _ (day : Day) (c : Call) (cs : List Call) (n : acceptedOf 68 day (c ∷ c
   unfolding acceptedOf
   no-date-later = none-of (accepts day c && eqb (column 1 (c .line)) 68) (c .line) (acceptedOf 68 (after day c) cs) n .1
 
-pub kept-run : (cs : List Call) (day : Day) → Kept day → acceptedOf 68 day cs ≡ [] → Kept (dayAfter day cs) × Later day (dayAfter day cs)
+pub kept-run : (cs : List Call) (day : Day) → Invariant day → acceptedOf 68 day cs ≡ [] → Invariant (dayAfter day cs) × Later day (dayAfter day cs)
 unfolding dayAfter
 kept-run [] day k n = (k, later-same day)
 kept-run (c ∷ cs) day k n =
@@ -154,7 +151,7 @@ kept-run (c ∷ cs) day k n =
     let b = kept-run cs (after day c) (a .0) (no-date-later day c cs n) in
     (b .0, later-trans day (after day c) (dayAfter (after day c) cs) (a .1) (b .1))
 
-pub all-owed : (cs : List Call) (day : Day) → Kept day → acceptedOf 68 day cs ≡ [] → Premise day cs → AllOwed ((dayAfter day cs) .names) day cs
+pub all-owed : (cs : List Call) (day : Day) → Invariant day → acceptedOf 68 day cs ≡ [] → Premise day cs → AllDecode ((dayAfter day cs) .names) day cs
 unfolding dayAfter
 all-owed [] day k n w = tt
 all-owed (c ∷ cs) day k n w =
@@ -179,15 +176,15 @@ listed-is : (kind : ℕ) (line : List ℕ) → eqb kind 83 ≡ true → (ofKind 
 unfolding ofKind pick
 listed-is kind line h = let e = eqb-true kind 83 h in rw e
 
-fine-listing : (day : Day) (c : Call) → refusalOf day (c .line) (c .room) ≡ none → eqb (column 1 (c .line)) 83 ≡ true → FineListing day (nameColumns (c .line)) (listingOf (c .line))
-unfolding Fine lineOf
-fine-listing day c e q = subst (λ (z : Line). Fine day (nameColumns (c .line)) z) (listed-is (column 1 (c .line)) (c .line) q) (fine day (c .line) (c .room) e)
+fine-listing : (day : Day) (c : Call) → refusalOf day (c .line) (c .room) ≡ none → eqb (column 1 (c .line)) 83 ≡ true → AcceptedListing day (nameColumns (c .line)) (listingOf (c .line))
+unfolding Accepted lineOf
+fine-listing day c e q = subst (λ (z : Line). Accepted day (nameColumns (c .line)) z) (listed-is (column 1 (c .line)) (c .line) q) (fine day (c .line) (c .room) e)
 
 after-listing : (day : Day) (c : Call) → refusalOf day (c .line) (c .room) ≡ none → eqb (column 1 (c .line)) 83 ≡ true → after day c ≡ afterLine day (nameColumns (c .line)) (Listed (listingOf (c .line)))
 unfolding lineOf
 after-listing day c e q = after-taken day c e ∙ ap (afterLine day (nameColumns (c .line))) (listed-is (column 1 (c .line)) (c .line) q)
 
-stands-now : (day : Day) (c : Call) → Kept day → refusalOf day (c .line) (c .room) ≡ none → eqb (column 1 (c .line)) 83 ≡ true → Stands (after day c) (c .line)
+stands-now : (day : Day) (c : Call) → Invariant day → refusalOf day (c .line) (c .room) ≡ none → eqb (column 1 (c .line)) 83 ≡ true → Stands (after day c) (c .line)
 stands-now day c k e q =
     let f = fine-listing day c e q in
     let a = after-listing day c e q in
@@ -214,7 +211,7 @@ member-first true line x rest h = go (same line x) refl h
 member-first false line x rest h = inr h
 
 -- an accepted S line stands at the end
-pub stands-at-end : (cs : List Call) (day : Day) (line : List ℕ) → Kept day → acceptedOf 68 day cs ≡ [] → member line (acceptedOf 83 day cs) ≡ true → Stands (dayAfter day cs) line
+pub stands-at-end : (cs : List Call) (day : Day) (line : List ℕ) → Invariant day → acceptedOf 68 day cs ≡ [] → member line (acceptedOf 83 day cs) ≡ true → Stands (dayAfter day cs) line
 unfolding acceptedOf dayAfter member
 stands-at-end [] day line k n m = absurd (false-true m)
 stands-at-end (c ∷ cs) day line k n m =
@@ -239,7 +236,7 @@ not-listed kind line e =
     (first-unlisted _ _ _ e
     (both-unlisted _ _ _ tt (both-unlisted _ _ _ tt (both-unlisted _ _ _ tt (both-unlisted _ _ _ tt (both-unlisted _ _ _ tt (both-unlisted _ _ _ tt tt)))))))
 
-entered-call : (day : Day) (c : Call) (i : ℕ) → Kept day → (accepts day c && eqb (column 1 (c .line)) 68) ≡ false → isEntered (atPlace (after day c) i) ≡ true → (isEntered (atPlace day i) ≡ true) ⊎ (((accepts day c && eqb (column 1 (c .line)) 83) ≡ true) × (place (c .line) ≡ i))
+entered-call : (day : Day) (c : Call) (i : ℕ) → Invariant day → (accepts day c && eqb (column 1 (c .line)) 68) ≡ false → isEntered (atPlace (after day c) i) ≡ true → (isEntered (atPlace day i) ≡ true) ⊎ (((accepts day c && eqb (column 1 (c .line)) 83) ≡ true) × (place (c .line) ≡ i))
 unfolding lineOf
 entered-call day c i k n h = go (refusalOf day (c .line) (c .room)) (eqb (column 1 (c .line)) 83) refl refl
   where
@@ -251,14 +248,9 @@ entered-call day c i k n h = go (refusalOf day (c .line) (c .room)) (eqb (column
         (place-or-not i (place (c .line)))
     go none false e q = inl (sym (entered-same day (nameColumns (c .line)) (lineOf (c .line)) k (fine day (c .line) (c .room) e) (other-kind day c k n e) (not-listed (column 1 (c .line)) (c .line) q) i) ∙ (ap (λ (d : Day). isEntered (atPlace d i)) (sym (after-taken day c e)) ∙ h))
 
-same-self : (t : List ℕ) → same t t ≡ true
-unfolding same
-same-self [] = refl
-same-self (c ∷ t) = rw (eq-eqb c c refl) (same-self t)
-
 member-now : (b : Bool) (x : List ℕ) (rest : List (List ℕ)) → b ≡ true → member x (pick b (x ∷ []) [] ++ rest) ≡ true
 unfolding pick member
-member-now true x rest e = rw (same-self x)
+member-now true x rest e = rw (same-refl x)
 member-now false x rest e = absurd (false-true e)
 
 member-later : (b : Bool) (line x : List ℕ) (rest : List (List ℕ)) → member line rest ≡ true → member line (pick b (x ∷ []) [] ++ rest) ≡ true
@@ -270,7 +262,7 @@ member-later true line x rest h = rw h (or-yes (same line x))
     or-yes false = refl
 member-later false line x rest h = h
 
-pub from-lines : (cs : List Call) (day : Day) → Kept day → acceptedOf 68 day cs ≡ [] → (i : ℕ) → isEntered (atPlace (dayAfter day cs) i) ≡ true → (isEntered (atPlace day i) ≡ true) ⊎ From (acceptedOf 83 day cs) i
+pub from-lines : (cs : List Call) (day : Day) → Invariant day → acceptedOf 68 day cs ≡ [] → (i : ℕ) → isEntered (atPlace (dayAfter day cs) i) ≡ true → (isEntered (atPlace day i) ≡ true) ⊎ From (acceptedOf 83 day cs) i
 unfolding acceptedOf dayAfter
 from-lines [] day k n i h = inl h
 from-lines (c ∷ cs) day k n i h =

@@ -3,8 +3,7 @@ use Prim.Native.Nat.{ℕ, _-_}
 use Prim.Native.String.{String}
 use native.Mathlib.Omega.{arith}
 use mathlib.Core.Path.{_≡_, refl, ap, sym, _∙_}
-use mathlib.Core.List.{List, [], _∷_, _++_, map}
-use mathlib.Core.Option.{Option, none, some}
+use mathlib.Core.List.{List, [], _∷_, _++_}
 use lib.ListN.{length, replicate}
 use Rattle.text.specs.Bytes.{bytes}
 use Rattle.rules.specs.Day.{Call}
@@ -26,7 +25,7 @@ use Rattle.rules.specs.Line as rules·Line
 use Rattle.rules.specs.Refusal as rules·Refusal
 use Rattle.rules.specs.Day as rules·Day
 use Rattle.rules.specs.Shown as rules·Shown
-use Rattle.wholeday.specs.Owed.{tape}
+use Rattle.wholeday.specs.Decodes.{tape}
 
 -- a line with its trailing blanks drawn
 abbrev padded : String → Call

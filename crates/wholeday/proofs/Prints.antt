@@ -1,26 +1,25 @@
 -- Each accepted line but a D owes what the decoder asks for. Assumes nothing.
 use Prim.Native.Nat.{ℕ, zero, suc, _+_, _-_, _≤_, _<_}
 use native.Mathlib.Omega.{arith}
-use mathlib.Core.Path.{_≡_, refl, sym, ap, _∙_, subst}
-use mathlib.Core.Bool.{Bool, true, false, _&&_, _||_, not}
-use mathlib.Core.List.{List, [], _∷_, _++_, map, append-assoc, append-nil}
-use mathlib.Core.Option.{Option, none, some}
-use lib.Dec.{leb, eqb}
-use lib.ListN.{length, getD, set, length-append, length-map, List·getD-map}
+use mathlib.Core.Path.{_≡_, refl, sym, ap, _∙_}
+use mathlib.Core.Bool.{Bool, true, false, _&&_, not}
+use mathlib.Core.List.{List, [], _∷_, _++_, map, append-assoc}
+use mathlib.Core.Option.{none, some}
+use lib.Dec.{leb}
+use lib.ListN.{length, getD, set, List·getD-map}
 use lib.Seq.{map-set-same}
 use Rattle.text.specs.Bytes.{bytes}
-use Rattle.text.specs.Pick.{pick, opt, same}
-use Rattle.text.specs.Reading.{Read, found, heads, starts}
-use Rattle.rules.specs.Tape.{isLetter, isUpper}
+use Rattle.text.specs.Pick.{pick, opt}
+use Rattle.text.specs.Reading.{found, heads, starts}
+use Rattle.text.proofs.Parts.{heads-append}
+use Rattle.rules.specs.Tape.{isLetter}
 use Rattle.rules.specs.Columns.{between}
 use Rattle.rules.specs.Names.{nameText, hasTemporary}
-use Rattle.rules.specs.Conditions.{afterName}
-use Rattle.rules.specs.Price.{wholePart, units, priceText}
-use Rattle.rules.specs.Volume.{volumeText}
+use Rattle.rules.specs.Price.{wholePart, units}
 use Rattle.rules.specs.Side.{headText, sideText}
-use Rattle.rules.specs.Trade.{dollars, isNormal, fullPrice, showsVolume, printsTrade, tradeFull, tradeShows, afterTrade}
+use Rattle.rules.specs.Trade.{dollars, isNormal, showsVolume, printsTrade, tradeFull, tradeShows, afterTrade}
 use Rattle.rules.specs.Announcement.{modeText, levelText, minimumText, stepText}
-use Rattle.rules.specs.Correction.{correctionText, cancelText, cancelOpening, errorOpening, printsCorrection, fullPrices, showsVolumes, wholeInFull, correctionFull, correctionShows, cancelFull, cancelShows, afterCorrection}
+use Rattle.rules.specs.Correction.{correctionText, cancelText, cancelOpening, errorOpening, printsCorrection, correctionFull, correctionShows, cancelFull, cancelShows, afterCorrection}
 use Rattle.rules.specs.Day.{Day, vacant, noName, securityAt, nameAt, isEntered, showsTemporary, entered, withSettings, withSecurity, printOf, tradePrint, cancelPrint, correctionPrint, afterLine}
 use Rattle.rules.specs.Shown.{conditionsOf, partOf, Fact, announced, traded, cancelled, erred, corrected, shownVolume, tradeFact, announcedIf, factOf}
 use Rattle.rules.specs.Premise.{tradeFalls, falls}
@@ -36,27 +35,26 @@ use Rattle.rules.specs.declared.Settings.{Settings}
 use Rattle.rules.specs.declared.Security.{Security}
 use Rattle.volumes.specs.Reading.{unsaid, shownOf}
 use Rattle.prices.specs.Reading.{shownPrice}
-use Rattle.announcement.specs.Reading.{Told, level, minimum, readAnnouncement}
-use Rattle.announcement.proofs.Back.{told, mode-back, minimum-back, level-back}
+use Rattle.announcement.specs.Reading.{Told, minimum}
 use Rattle.named.specs.Plain.{NamePlain}
 use Rattle.named.proofs.Root.{false-true}
 use Rattle.named.proofs.Back.{name-head}
-use Rattle.decoder.specs.Carried.{Carried, printedOf, carriedOf, modeTold, modeAfter, next}
-use Rattle.decoder.specs.Decode.{Names, isNameOf, nameIn, priceBy, volumeBy, Found, there, decode}
+use Rattle.decoder.specs.Carried.{printedOf, carriedOf, next}
+use Rattle.decoder.specs.Decode.{Names, isNameOf, nameIn, priceBy, volumeBy, there, decode}
 use Rattle.decoder.proofs.Sides.{price-by, volume-by}
 use Rattle.decoder.proofs.Lookup.{no-name, unlike-name}
 use Rattle.decoder.proofs.Fresh.{Fresh, fresh-pair, side-fresh}
 use Rattle.decoder.proofs.Carries.{mode-carried, minimum-carried, level-carried}
 use Rattle.decoder.proofs.Undone.{Known, trade-undone, cancel-undone, error-undone, correction-undone, minimum-undone, mode-undone, level-undone}
-use Rattle.wholeday.specs.Fine.{FineListing, FineTrade, FineCorrection, Fine}
-use Rattle.wholeday.specs.Kept.{atPlace, named, Kept, Later}
-use Rattle.wholeday.specs.Owed as owed
-use Rattle.wholeday.specs.Owed.{Silent, Owed}
+use Rattle.wholeday.specs.Accepted.{AcceptedListing, AcceptedTrade, AcceptedCorrection, Accepted}
+use Rattle.wholeday.specs.Invariant.{atPlace, named, Invariant, Later}
+use Rattle.wholeday.specs.Decodes as decoding
+use Rattle.wholeday.specs.Decodes.{Silent}
 use Rattle.wholeday.proofs.Kept.{NotDate}
 
 -- ---- a security is known by its name
 
-module _ (day e : Day) (k : Kept e) (l : Later day e) (i : ℕ) (low : 1 ≤ i) (high : i ≤ 512) (entered-there : isEntered (securityAt day i) ≡ true) where
+module _ (day e : Day) (k : Invariant e) (l : Later day e) (i : ℕ) (low : 1 ≤ i) (high : i ≤ 512) (entered-there : isEntered (securityAt day i) ≡ true) where
   abbrev p : ℕ
   p = i - 1
 
@@ -127,16 +125,12 @@ heads-some : (p : ℕ → Bool) (t : List ℕ) → heads p t ≡ true → 0 < le
 heads-some p [] h = absurd (false-true h)
 heads-some p (c ∷ t) h = omega arith
 
-heads-front : (p : ℕ → Bool) (t u : List ℕ) → heads p t ≡ true → heads p (t ++ u) ≡ true
-heads-front p [] u h = absurd (false-true h)
-heads-front p (c ∷ t) u h = h
-
 module _ (network : ℕ) (n : List ℕ) (plain : NamePlain network n) (b : Bool) (unit : ℕ) (full shows : Bool) (x : Side) where
   side-some : 0 < length (sideText (nameText b n) network unit full shows x)
   unfolding sideText headText
-  side-some = heads-some isLetter (sideText (nameText b n) network unit full shows x) (simp append-assoc (heads-front isLetter (nameText b n) _ (name-head network n plain b)))
+  side-some = heads-some isLetter (sideText (nameText b n) network unit full shows x) (simp append-assoc (heads-append isLetter (nameText b n) _ (name-head network n plain b)))
 
-module _ (day e : Day) (k : Kept e) (l : Later day e) (t : Trade) (f : FineTrade day t) where
+module _ (day e : Day) (k : Invariant e) (l : Later day e) (t : Trade) (f : AcceptedTrade day t) where
   abbrev st : Settings
   st = day .settings
 
@@ -201,7 +195,7 @@ module _ (day e : Day) (k : Kept e) (l : Later day e) (t : Trade) (f : FineTrade
   found-fact w q =
       rw (carried-price day i (f .entered-there), mode-is, price-by st s (t .market) x (f .side-is) (premise w q), same-trade-name, volume-by (st .mode) (showsVolume st s (t .market) x) (s .network) (s .unit) (x .volume))
 
-  printed : tradeFalls day t ≡ false → printsTrade st s (t .market) x ≡ true → owed.Told (e .names) day (withSecurity day i after-trade) (tradePrint day t) (tradeFact day t)
+  printed : tradeFalls day t ≡ false → printsTrade st s (t .market) x ≡ true → decoding.Told (e .names) day (withSecurity day i after-trade) (tradePrint day t) (tradeFact day t)
   unfolding next tradeFact
   printed w q = record {
     follows = carried-set day i (units (x .price)) after-trade (printed-there after-trade after-entered ∙ price-moves q);
@@ -210,11 +204,11 @@ module _ (day e : Day) (k : Kept e) (l : Later day e) (t : Trade) (f : FineTrade
     undone = λ r u. rw (the-print q) (trade-undone (e .names) (s .network) i known-trade (carriedOf day) (showsTemporary s) (s .unit) (tradeFull st s (t .market) x) (tradeShows st s (t .market) x) x r (f .side-is) u ∙ ap (λ (g : Fact). there g r) (found-fact w q));
   }
 
-  trade-owed : tradeFalls day t ≡ false → owed.Owed (e .names) day (withSecurity day i after-trade) (tradePrint day t) (pick (printsTrade st s (t .market) x) (some (tradeFact day t)) none)
+  trade-owed : tradeFalls day t ≡ false → decoding.Decodes (e .names) day (withSecurity day i after-trade) (tradePrint day t) (pick (printsTrade st s (t .market) x) (some (tradeFact day t)) none)
   unfolding pick
   trade-owed w = go (printsTrade st s (t .market) x) refl
     where
-      go : (b : Bool) → printsTrade st s (t .market) x ≡ b → owed.Owed (e .names) day (withSecurity day i after-trade) (tradePrint day t) (pick b (some (tradeFact day t)) none)
+      go : (b : Bool) → printsTrade st s (t .market) x ≡ b → decoding.Decodes (e .names) day (withSecurity day i after-trade) (tradePrint day t) (pick b (some (tradeFact day t)) none)
       go true q = printed w q
       go false q = left-off q
 
@@ -223,7 +217,7 @@ module _ (day e : Day) (k : Kept e) (l : Later day e) (t : Trade) (f : FineTrade
 front-some : (c : ℕ) (t u : List ℕ) → 0 < length ((c ∷ t) ++ u)
 front-some c t u = omega arith
 
-module _ (day e : Day) (k : Kept e) (l : Later day e) (t : Trade) (f : FineTrade day t) where
+module _ (day e : Day) (k : Invariant e) (l : Later day e) (t : Trade) (f : AcceptedTrade day t) where
   abbrev sc : Security
   sc = securityAt day (t .security)
 
@@ -241,7 +235,7 @@ module _ (day e : Day) (k : Kept e) (l : Later day e) (t : Trade) (f : FineTrade
   unfolding carriedOf
   cancel-mode = refl
 
-  cancel-owed : owed.Told (e .names) day day (cancelPrint cancelOpening day t) (cancelled (t .security) (partOf (isNormal (day .settings .mode)) (t .side)))
+  cancel-owed : decoding.Told (e .names) day day (cancelPrint cancelOpening day t) (cancelled (t .security) (partOf (isNormal (day .settings .mode)) (t .side)))
   unfolding next cancelText cancelFull cancelShows carriedOf
   cancel-owed = record {
     follows = refl;
@@ -250,7 +244,7 @@ module _ (day e : Day) (k : Kept e) (l : Later day e) (t : Trade) (f : FineTrade
     undone = λ r u. rw (the-cancel cancelOpening) (cancel-undone (e .names) (sc .network) (t .security) known-cancel (carriedOf day) (sc .unit) _ _ (t .side) r (f .side-is) u);
   }
 
-  error-owed : owed.Told (e .names) day day (cancelPrint errorOpening day t) (erred (t .security) (partOf (isNormal (day .settings .mode)) (t .side)))
+  error-owed : decoding.Told (e .names) day day (cancelPrint errorOpening day t) (erred (t .security) (partOf (isNormal (day .settings .mode)) (t .side)))
   unfolding next cancelText cancelFull cancelShows carriedOf
   error-owed = record {
     follows = refl;
@@ -261,7 +255,7 @@ module _ (day e : Day) (k : Kept e) (l : Later day e) (t : Trade) (f : FineTrade
 
 -- ---- a correction
 
-module _ (day e : Day) (k : Kept e) (l : Later day e) (c : Correction) (f : FineCorrection day c) where
+module _ (day e : Day) (k : Invariant e) (l : Later day e) (c : Correction) (f : AcceptedCorrection day c) where
   abbrev sx : Security
   sx = securityAt day (c .security)
 
@@ -287,7 +281,7 @@ module _ (day e : Day) (k : Kept e) (l : Later day e) (c : Correction) (f : Fine
   unfolding correctionPrint opt
   no-correction q = rw q
 
-  correction-printed : printsCorrection (day .settings) sx (c .original) (c .correcting) ≡ true → owed.Told (e .names) day (withSecurity day (c .security) after-correction) (correctionPrint day c) (corrected (c .security) (partOf (isNormal (day .settings .mode)) (c .original)) (partOf (isNormal (day .settings .mode)) (c .correcting)))
+  correction-printed : printsCorrection (day .settings) sx (c .original) (c .correcting) ≡ true → decoding.Told (e .names) day (withSecurity day (c .security) after-correction) (correctionPrint day c) (corrected (c .security) (partOf (isNormal (day .settings .mode)) (c .original)) (partOf (isNormal (day .settings .mode)) (c .correcting)))
   unfolding next correctionText correctionFull correctionShows carriedOf
   correction-printed q = record {
     follows = correction-stays;
@@ -296,11 +290,11 @@ module _ (day e : Day) (k : Kept e) (l : Later day e) (c : Correction) (f : Fine
     undone = λ r u. rw (the-correction q) (correction-undone (e .names) (sx .network) (c .security) known-correction (carriedOf day) (sx .unit) _ _ (c .original) (c .correcting) r (f .original-is) (f .correcting-is) u);
   }
 
-  correction-owed : owed.Owed (e .names) day (withSecurity day (c .security) after-correction) (correctionPrint day c) (pick (printsCorrection (day .settings) sx (c .original) (c .correcting)) (some (corrected (c .security) (partOf (isNormal (day .settings .mode)) (c .original)) (partOf (isNormal (day .settings .mode)) (c .correcting)))) none)
+  correction-owed : decoding.Decodes (e .names) day (withSecurity day (c .security) after-correction) (correctionPrint day c) (pick (printsCorrection (day .settings) sx (c .original) (c .correcting)) (some (corrected (c .security) (partOf (isNormal (day .settings .mode)) (c .original)) (partOf (isNormal (day .settings .mode)) (c .correcting)))) none)
   unfolding pick
   correction-owed = go (printsCorrection (day .settings) sx (c .original) (c .correcting)) refl
     where
-      go : (b : Bool) → printsCorrection (day .settings) sx (c .original) (c .correcting) ≡ b → owed.Owed (e .names) day (withSecurity day (c .security) after-correction) (correctionPrint day c) (pick b (some (corrected (c .security) (partOf (isNormal (day .settings .mode)) (c .original)) (partOf (isNormal (day .settings .mode)) (c .correcting)))) none)
+      go : (b : Bool) → printsCorrection (day .settings) sx (c .original) (c .correcting) ≡ b → decoding.Decodes (e .names) day (withSecurity day (c .security) after-correction) (correctionPrint day c) (pick b (some (corrected (c .security) (partOf (isNormal (day .settings .mode)) (c .original)) (partOf (isNormal (day .settings .mode)) (c .correcting)))) none)
       go true q = correction-printed q
       go false q = record { no-text = no-correction q; stays = correction-stays }
 
@@ -308,7 +302,7 @@ module _ (day e : Day) (k : Kept e) (l : Later day e) (c : Correction) (f : Fine
 
 -- an announcement is some text
 module _ (names : Names) (day e : Day) where
-  announced-owed : (text : List ℕ) → starts (bytes "<<<") text ≡ true → carriedOf e ≡ next (carriedOf day) (announced text) → ((s : List ℕ) → Fresh (text ++ s)) → ((s : List ℕ) → decode names (carriedOf day) (text ++ s) ≡ there (announced text) s) → owed.Owed names day e text (announcedIf text)
+  announced-owed : (text : List ℕ) → starts (bytes "<<<") text ≡ true → carriedOf e ≡ next (carriedOf day) (announced text) → ((s : List ℕ) → Fresh (text ++ s)) → ((s : List ℕ) → decode names (carriedOf day) (text ++ s) ≡ there (announced text) s) → decoding.Decodes names day e text (announcedIf text)
   unfolding announcedIf
   announced-owed [] h w g u = absurd (false-true (sym no-start ∙ h))
     where
@@ -332,19 +326,19 @@ mode-first Rpo n s = (refl, fresh-pair _)
 mode-first Mpv n s = minimum-first n s
 
 module _ (names : Names) (day : Day) where
-  mode-owed : (m : Mode) (st : Settings) → st .mode ≡ m → owed.Owed names day (withSettings day st) (modeText m (day .settings .minimum)) (announcedIf (modeText m (day .settings .minimum)))
+  mode-owed : (m : Mode) (st : Settings) → st .mode ≡ m → decoding.Decodes names day (withSettings day st) (modeText m (day .settings .minimum)) (announcedIf (modeText m (day .settings .minimum)))
   unfolding next carriedOf
   mode-owed m st e =
       let n = day .settings .minimum in
       announced-owed names day (withSettings day st) (modeText m n) (mode-first m n [] .0) (sym (mode-carried (carriedOf day) n m ∙ ap (λ (k : Mode). record { mode = k; printed = (carriedOf day) .printed }) (sym e))) (λ s. mode-first m n s .1) (λ s. mode-undone names (carriedOf day) m n s)
 
-  level-owed : (n : ℕ) (st : Settings) → n < 1000000000 → st .mode ≡ day .settings .mode → owed.Owed names day (withSettings day st) (levelText n) (announcedIf (levelText n))
+  level-owed : (n : ℕ) (st : Settings) → n < 1000000000 → st .mode ≡ day .settings .mode → decoding.Decodes names day (withSettings day st) (levelText n) (announcedIf (levelText n))
   unfolding next carriedOf
   level-owed n st h e =
       announced-owed names day (withSettings day st) (levelText n) (level-first n [] .0) (ap (λ (k : Mode). record { mode = k; printed = (carriedOf day) .printed }) e ∙ sym (level-carried (carriedOf day) n h)) (λ s. level-first n s .1) (λ s. level-undone names (carriedOf day) n s h)
 
   -- P prints in MPV only
-  step-owed : (n : ℕ) (st : Settings) (m : Mode) → day .settings .mode ≡ m → st .mode ≡ m → owed.Owed names day (withSettings day st) (stepText m n) (announcedIf (stepText m n))
+  step-owed : (n : ℕ) (st : Settings) (m : Mode) → day .settings .mode ≡ m → st .mode ≡ m → decoding.Decodes names day (withSettings day st) (stepText m n) (announcedIf (stepText m n))
   unfolding next carriedOf stepText announcedIf
   step-owed n st Normal d e = record { no-text = refl; stays = rw (e, d) }
   step-owed n st Dvd d e = record { no-text = refl; stays = rw (e, d) }
@@ -361,14 +355,14 @@ entered-none l = go (isEntered (entered l))
     go true = refl
     go false = refl
 
-listing-stays : (day : Day) (name : List ℕ) (l : Listing) → FineListing day name l → carriedOf (record { settings = day .settings; securities = set (day .securities) (l .number - 1) (entered l); names = set (day .names) (l .number - 1) name }) ≡ carriedOf day
+listing-stays : (day : Day) (name : List ℕ) (l : Listing) → AcceptedListing day name l → carriedOf (record { settings = day .settings; securities = set (day .securities) (l .number - 1) (entered l); names = set (day .names) (l .number - 1) name }) ≡ carriedOf day
 unfolding carriedOf
 listing-stays day name l f = rw (map-set-same printedOf (day .securities) (l .number - 1) (entered l) vacant (entered-none l ∙ sym (printed-none (securityAt day (l .number)) (f .vacant-place))))
 
 -- ---- any accepted line but a D
 
-pub line-owed : (day e : Day) (name : List ℕ) (l : Line) → Kept e → Later day e → Fine day name l → NotDate l → falls day l ≡ false → owed.Owed (e .names) day (afterLine day name l) (printOf day l) (factOf day l)
-unfolding afterLine printOf factOf Fine NotDate falls
+pub line-owed : (day e : Day) (name : List ℕ) (l : Line) → Invariant e → Later day e → Accepted day name l → NotDate l → falls day l ≡ false → decoding.Decodes (e .names) day (afterLine day name l) (printOf day l) (factOf day l)
+unfolding afterLine printOf factOf Accepted NotDate falls
 line-owed day e name (Dated n) k l f z w = absurd z
 line-owed day e name (Listed x) k l f z w = record { no-text = refl; stays = listing-stays day name x f }
 line-owed day e name (Moded m) k l f z w = mode-owed (e .names) day m _ refl

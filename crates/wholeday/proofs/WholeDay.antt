@@ -1,37 +1,37 @@
 -- DEMAND 3, proved. Two lists of calls, each from a fresh state: where the tapes are equal, the facts are. Assumes nothing.
 -- Both are what one decoder finds on the tape, by the names of the accepted S lines. It carries the mode and the last printed prices, which the tape shows.
-use Prim.Native.Nat.{ℕ, zero, suc, _-_, _≤_, _<_}
+use Prim.Native.Nat.{ℕ, _-_, _<_}
 use native.Mathlib.Omega.{arith}
 use mathlib.Core.Path.{_≡_, refl, sym, ap, _∙_, subst}
-use mathlib.Core.Logic.{_⊎_, inl, inr, ⊎-elim}
-use mathlib.Core.Bool.{Bool, true, false, _&&_, _||_, not}
-use mathlib.Core.List.{List, [], _∷_, _++_, map}
+use mathlib.Core.Logic.{_⊎_, ⊎-elim}
+use mathlib.Core.Bool.{Bool, true, false, _&&_}
+use mathlib.Core.List.{List, [], _∷_, _++_}
 use mathlib.Core.Option.{Option, none, some}
 use lib.Dec.{eqb}
-use lib.ListN.{length, getD, replicate, getD-replicate}
+use lib.ListN.{length, getD-replicate}
 use lib.Seq.{ext-getD}
 use borrow.Author.Tests.{eqb-true}
 use Rattle.text.specs.Pick.{pick, member}
 use Rattle.rules.specs.Columns.{column, columns, numberIn, valueOf}
-use Rattle.rules.specs.Line.{lineOf, ofKind, nameColumns}
+use Rattle.rules.specs.Line.{lineOf, nameColumns}
 use Rattle.rules.specs.Day.{Day, Call, vacant, noName, opened, cleared, fresh, isEntered, undated, printOf, refusalOf, afterLine, tapeOf, after}
-use Rattle.rules.specs.Shown.{Fact, factOf, shownBy, entries, shown}
+use Rattle.rules.specs.Shown.{factOf, shownBy, shown}
 use Rattle.rules.specs.Premise.{Premise}
-use Rattle.rules.specs.declared.Line.{Line}
 use Rattle.rules.specs.declared.Line.the-variants.{Dated}
 use Rattle.rules.specs.declared.Refusal.{Refusal}
 use Rattle.decoder.specs.Carried.{Carried, carriedOf}
 use Rattle.decoder.specs.Decode.{Names}
 use Rattle.named.proofs.Root.{false-true}
-use Rattle.calls.specs.Run.{State, Sized, Lent, Run, callOf, tapeFrom}
+use Rattle.calls.specs.Run.{Lent, callOf, tapeFrom}
 use Rattle.calls.proofs.Runs.{fresh-run}
-use Rattle.wholeday.specs.Kept.{atPlace, named, Kept, Later}
-use Rattle.wholeday.specs.Owed.{tape, dayAfter, decodeAll}
-use Rattle.wholeday.specs.Claim.{accepts, acceptedOf, dateLines, securityLines, Alike, WholeDay, callsOf, RunsAlike, WholeDayRuns}
+use Rattle.calls.proofs.Early.{dated, is-date}
+use Rattle.wholeday.specs.Invariant.{atPlace, named, Invariant}
+use Rattle.wholeday.specs.Decodes.{tape, dayAfter, decodeAll}
+use Rattle.wholeday.specs.Claim.{accepts, acceptedOf, WholeDay, callsOf, WholeDayRuns}
 use Rattle.wholeday.proofs.Accepted.{dated-or-date}
 use Rattle.wholeday.proofs.Kept.{kept-cleared, no-security}
 use Rattle.wholeday.proofs.Decoded.{decoded}
-use Rattle.wholeday.proofs.Lists.{after-refused, tape-refused, shown-refused, not-accepted, after-taken, tape-taken, shown-taken, accepted-yes, kept-run, all-owed, Stands, place, stands-at-end, From, from-lines}
+use Rattle.wholeday.proofs.Lists.{after-refused, tape-refused, shown-refused, not-accepted, after-taken, tape-taken, shown-taken, accepted-yes, kept-run, all-owed, stands-at-end, From, from-lines}
 
 -- ---- the same accepted S lines, the same names
 
@@ -46,10 +46,10 @@ module _ (n m : ℕ) (cs ks : List Call) (no-date : acceptedOf 68 (cleared n) cs
   abbrev g : Day
   g = dayAfter (cleared m) ks
 
-  kept-e : Kept e
+  kept-e : Invariant e
   kept-e = kept-run cs (cleared n) (kept-cleared n) no-date .0
 
-  kept-g : Kept g
+  kept-g : Invariant g
   kept-g = kept-run ks (cleared m) (kept-cleared m) none-either .0
 
   -- a security of the first list is one of the second, under its name
@@ -72,10 +72,10 @@ names-same n m cs ks x y s = ext-getD noName (a .names) (b .names) (ka .lines �
     b : Day
     b = dayAfter (cleared m) ks
 
-    ka : Kept a
+    ka : Invariant a
     ka = kept-e n m cs ks x y
 
-    kb : Kept b
+    kb : Invariant b
     kb = kept-g n m cs ks x y
 
     both-none : (i : ℕ) → i < 512 → (q : Bool) → isEntered (atPlace b i) ≡ q → isEntered (atPlace a i) ≡ false → named a i ≡ named b i
@@ -99,14 +99,6 @@ record Opening (cs : List Call) : Type 0 where
   no-more : acceptedOf 68 (cleared number) rest ≡ []
   lines-are : acceptedOf 83 fresh cs ≡ acceptedOf 83 (cleared number) rest
   premise-is : Premise (cleared number) rest
-
-is-date : (b : Bool) → (not b && true) ≡ false → b ≡ true
-is-date true h = refl
-is-date false h = sym h
-
-dated : (kind : ℕ) (line : List ℕ) → eqb kind 68 ≡ true → (ofKind kind line) .line ≡ Dated (valueOf (numberIn (columns 2 9 line)))
-unfolding ofKind pick
-dated kind line h = rw h
 
 nil-cons : (x : List ℕ) (l : List (List ℕ)) → [] ≡ x ∷ l → ⊥
 nil-cons x l h = false-true (ap isCons h)

@@ -3,7 +3,7 @@ use Prim.Native.Nat.{ℕ}
 use mathlib.Core.Path.{_≡_}
 use mathlib.Core.Bool.{Bool, true, false, _&&_}
 use mathlib.Core.List.{List, [], _∷_, _++_, map}
-use mathlib.Core.Option.{Option, none, some}
+use mathlib.Core.Option.{none, some}
 use lib.Dec.{eqb}
 use Rattle.text.specs.Pick.{pick, member}
 use Rattle.rules.specs.Columns.{column}
@@ -11,7 +11,7 @@ use Rattle.rules.specs.Day.{Day, Call, opened, fresh, refusalOf, after}
 use Rattle.rules.specs.Shown.{shown}
 use Rattle.rules.specs.Premise.{Premise}
 use Rattle.calls.specs.Run.{State, Sized, Lent, Run, callOf}
-use Rattle.wholeday.specs.Owed.{tape}
+use Rattle.wholeday.specs.Decodes.{tape}
 
 -- the call's line is accepted
 unfoldable pub accepts : Day → Call → Bool

@@ -1,5 +1,5 @@
 pub mod Lawful
-pub mod Fine
-pub mod Kept
-pub mod Owed
+pub mod Accepted
+pub mod Invariant
+pub mod Decodes
 pub mod Claim

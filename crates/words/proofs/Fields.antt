@@ -1,29 +1,21 @@
 -- Laws of a field's text and of the loops that look through a text. Assumes nothing.
-use Prim.Native.Nat.{ℕ, zero, suc, _+_, _-_, _≤_, _<_}
+use Prim.Native.Nat.{ℕ, suc, _+_, _-_, _≤_, _<_}
 use native.Mathlib.Numerals.{add-one}
 use native.Mathlib.Omega.{arith}
-use mathlib.Core.Path.{_≡_, refl, sym, ap, _∙_}
-use mathlib.Core.Bool.{Bool, true, false, _&&_, _||_, not}
+use mathlib.Core.Path.{_≡_, refl, sym, _∙_}
+use mathlib.Core.Bool.{Bool, true, false}
 use mathlib.Core.List.{List, [], _∷_, _++_, append-nil}
-use lib.ListN.{length, getD, take, drop, length-take, length-drop, drop-of-length-le}
-use lib.Seq.{drop-cons, take-suc, take-all, append-snoc, length-take-le}
-use lib.Dec.{eqb}
+use lib.ListN.{length, getD, take, drop, drop-of-length-le}
+use lib.Seq.{drop-cons, take-suc, append-snoc, length-take-le}
 use borrow.Author.Tests.{eq-eqb, ne-eqb}
 use Rattle.text.specs.Pick.{pick, all, among}
-use Rattle.text.specs.Reading.{Read, span, starts}
-use Rattle.text.proofs.Texts.{and-right}
+use Rattle.text.specs.Reading.{span, starts}
+use Rattle.text.proofs.Parts.{rest-is}
 use Rattle.rules.specs.Columns.{isBlank, notBlank, blank, word, filled, leftJustified}
+use Rattle.rules.proofs.Fields.{word-blank, word-byte}
 use Rattle.words.specs.Word.{WordOf}
 
 -- ---- the text at a field's left
-
-pub word-blank : (c : ℕ) (s : List ℕ) → c ≡ 32 → word (c ∷ s) ≡ []
-unfolding word span pick isBlank
-word-blank c s h = rw (word, eq-eqb c 32 h)
-
-pub word-byte : (c : ℕ) (s : List ℕ) → (c ≡ 32 → ⊥) → word (c ∷ s) ≡ c ∷ word s
-unfolding word span pick isBlank
-word-byte c s h = rw (word, ne-eqb c 32 h)
 
 pub word-nothing : word [] ≡ []
 unfolding word span
@@ -75,10 +67,6 @@ span-rest p (c ∷ s) = go (p c) refl (span-rest p s)
     go true e ih = rw e ih
     go false e ih = rw e
 
--- the rest of a field from n on, as the code cuts it out
-pub rest-is : (s : List ℕ) (n : ℕ) → take (length s - n) (drop n s) ≡ drop n s
-rest-is s n = take-all (length s - n) (drop n s) (rw length-drop (omega arith))
-
 pub justified : (s : List ℕ) (n : ℕ) (r : Bool) → WordOf s n → r ≡ blank (take (length s - n) (drop n s)) → r ≡ leftJustified s
 unfolding leftJustified filled word
 justified s n r w e = e ∙ rw (rest-is s n, w .count-is, span-rest notBlank s)
@@ -114,13 +102,3 @@ module _ (p s : List ℕ) (i : ℕ) (x : Bool) (e : starts (drop i p) (drop i s)
   pub front-all : length p ≤ i → true ≡ x
   unfolding starts
   front-all h = rw (← e, drop-of-length-le p h)
-
--- a text is no shorter than its front
-pub front-length : (p s : List ℕ) → starts p s ≡ true → length p ≤ length s
-unfolding starts
-front-length [] s h = omega arith
-front-length (a ∷ p) [] h = absurd (never (cc))
-  where
-    never : _≡_ {A = ℕ} 0 1 → ⊥
-    never z = omega arith
-front-length (a ∷ p) (c ∷ s) h = let k = front-length p s (and-right (eqb a c) (starts p s) h) in omega arith

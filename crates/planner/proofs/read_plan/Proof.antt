@@ -1,5 +1,6 @@
-use Rattle.planner.proofs.Ranged.{sound-line, not-formed, not-ranged, read-through, name-length}
+use Rattle.planner.proofs.Ranged.{sound-line, not-formed, not-ranged, read-through}
 use borrow.Author.Needs.{needs}
+use Rattle.rules.proofs.Fields.{name-length}
 use Rattle.planner.proofs.read_plan.Statement.{statement}
 use Rattle.planner.proofs.read_plan.Tie as tie
 

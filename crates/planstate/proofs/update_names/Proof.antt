@@ -1,7 +1,7 @@
-use Rattle.planner.proofs.Ranged.{name-length}
 use Rattle.planstate.proofs.Arms.{named-after}
 use Rattle.planprint.proofs.Arms.{place-enter, line-enter, line-room}
 use borrow.Author.Needs.{needs}
+use Rattle.rules.proofs.Fields.{name-length}
 use Rattle.planstate.proofs.update_names.Statement.{statement}
 use Rattle.planstate.proofs.update_names.Tie as tie
 

@@ -1,4 +1,4 @@
-use Rattle.blocks.proofs.Fronts.{counted}
+use Rattle.text.proofs.Parts.{counted}
 use Rattle.refill.proofs.Laws.{fronted, front-is}
 use borrow.Author.Needs.{needs}
 use Rattle.refill.proofs.to_front.Statement.{statement}

@@ -12,11 +12,11 @@ returns-2 c = search priced-whole
 power-requires : tie.Need-power-requires
 power-requires c κs = search needs
 
-mul-t9 : tie.Need-mul-t9
-mul-t9 c = record { fits = search whole-fits }
+mul-t10 : tie.Need-mul-t10
+mul-t10 c = record { fits = search whole-fits }
 
-add-t10 : tie.Need-add-t10
-add-t10 c = record { fits = search price-fits }
+add-t11 : tie.Need-add-t11
+add-t11 c = record { fits = search price-fits }
 
 add-t12 : tie.Need-add-t12
 add-t12 c = search needs
@@ -29,4 +29,4 @@ returns-3 c = search priced-both
 
 pub priced-spec : {M : Type 1} → statement M
 priced-spec =
-    tie.close (tie.spec returns returns-2 power-requires mul-t9 add-t10 add-t12 add-t13 returns-3)
+    tie.close (tie.spec returns returns-2 power-requires mul-t10 add-t11 add-t12 add-t13 returns-3)

@@ -1,4 +1,5 @@
-use Rattle.symbol.proofs.Text.{name-fits, cut-length, same-cut}
+use Rattle.text.proofs.Parts.{front-length}
+use Rattle.symbol.proofs.Text.{name-fits, same-cut}
 use borrow.Author.Needs.{needs}
 use Rattle.symbol.proofs.same_shown.Statement.{statement}
 use Rattle.symbol.proofs.same_shown.Tie as tie
@@ -19,13 +20,13 @@ array-share-prefix-first : tie.Need-array-share-prefix-first
 array-share-prefix-first c = search needs
 
 slice-aggregate-same-text : tie.Need-slice-aggregate-same-text
-slice-aggregate-same-text c = search cut-length
+slice-aggregate-same-text c = search front-length
 
 array-share-prefix-second : tie.Need-array-share-prefix-second
 array-share-prefix-second c = search needs
 
 slice-aggregate-same-text-2 : tie.Need-slice-aggregate-same-text-2
-slice-aggregate-same-text-2 c = search cut-length
+slice-aggregate-same-text-2 c = search front-length
 
 same-text-requires : tie.Need-same-text-requires
 same-text-requires c κs = search needs

@@ -1,4 +1,4 @@
-use Rattle.blocks.proofs.Fronts.{counted}
+use Rattle.text.proofs.Parts.{counted}
 use Rattle.tapes.proofs.Laws.{front-most}
 use borrow.Author.Needs.{needs}
 use Rattle.tapes.proofs.show_front.Statement.{statement}

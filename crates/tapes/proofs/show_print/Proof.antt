@@ -1,4 +1,5 @@
-use Rattle.tapes.proofs.Laws.{line-room, written-front}
+use Rattle.text.proofs.Parts.{front-length}
+use Rattle.tapes.proofs.Laws.{line-room}
 use borrow.Author.Needs.{needs}
 use Rattle.tapes.proofs.show_print.Statement.{statement}
 use Rattle.tapes.proofs.show_print.Tie as tie
@@ -10,7 +11,7 @@ slice-reshare-prefix-write-all : tie.Need-slice-reshare-prefix-write-all
 slice-reshare-prefix-write-all c = search needs
 
 slice-aggregate-write-all : tie.Need-slice-aggregate-write-all
-slice-aggregate-write-all c = search written-front
+slice-aggregate-write-all c = search front-length
 
 write-all-requires : tie.Need-write-all-requires
 write-all-requires c κs = search needs

@@ -1,4 +1,4 @@
-use Rattle.blocks.proofs.Fronts.{counted}
+use Rattle.text.proofs.Parts.{counted}
 use borrow.Author.Needs.{needs}
 use Rattle.vectors.proofs.show_day.Statement.{statement}
 use Rattle.vectors.proofs.show_day.Tie as tie

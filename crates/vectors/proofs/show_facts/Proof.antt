@@ -1,5 +1,5 @@
 use Rattle.engine.proofs.Steps.{front-length}
-use Rattle.blocks.proofs.Fronts.{counted}
+use Rattle.text.proofs.Parts.{counted}
 use borrow.Author.Needs.{needs}
 use Rattle.vectors.proofs.show_facts.Statement.{statement}
 use Rattle.vectors.proofs.show_facts.Tie as tie

@@ -1,5 +1,6 @@
-use Rattle.volumescan.proofs.Volumes.{volume-long, counted, front-length, said-many, said-yes, said-no}
+use Rattle.volumescan.proofs.Volumes.{volume-long, said-many, said-yes, said-no}
 use borrow.Author.Needs.{needs}
+use Rattle.text.proofs.Parts.{front-length, counted}
 use Rattle.volumescan.proofs.said.Statement.{statement}
 use Rattle.volumescan.proofs.said.Tie as tie
 

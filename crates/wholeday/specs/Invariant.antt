@@ -1,7 +1,7 @@
 -- What holds of every day that a list of calls leads to from a fresh one. Assumes nothing.
-use Prim.Native.Nat.{ℕ, _≤_, _<_}
+use Prim.Native.Nat.{ℕ, _<_}
 use mathlib.Core.Path.{_≡_}
-use mathlib.Core.Bool.{Bool, true, false}
+use mathlib.Core.Bool.{true, false}
 use mathlib.Core.List.{List}
 use lib.ListN.{length, getD}
 use Rattle.rules.specs.Names.{sameName}
@@ -17,7 +17,7 @@ abbrev pub named : Day → ℕ → List ℕ
 named day i = getD (day .names) i noName
 
 -- 512 places, each with a lawful name or none, and no name twice
-pub record Kept (day : Day) : Type 0 where
+pub record Invariant (day : Day) : Type 0 where
   pub places : length (day .securities) ≡ 512
   pub lines : length (day .names) ≡ 512
   pub no-name : (i : ℕ) → i < 512 → isEntered (atPlace day i) ≡ false → named day i ≡ noName

@@ -1,7 +1,7 @@
 -- What an accepted line owes to the day that it found. Assumes nothing.
 use Prim.Native.Nat.{ℕ, _≤_, _<_}
 use mathlib.Core.Path.{_≡_}
-use mathlib.Core.Bool.{Bool, true, false}
+use mathlib.Core.Bool.{true, false}
 use mathlib.Core.List.{List}
 use Rattle.rules.specs.Day.{Day, securityAt, isEntered, takenName}
 use Rattle.rules.specs.declared.Listing.{Listing}
@@ -12,7 +12,7 @@ use Rattle.rules.specs.declared.Line.the-variants.{Dated, Listed, Moded, Levele
 use Rattle.named.specs.Plain.{NamePlain}
 use Rattle.decoder.specs.Lawful.{LawfulSide}
 
-pub record FineListing (day : Day) (name : List ℕ) (l : Listing) : Type 0 where
+pub record AcceptedListing (day : Day) (name : List ℕ) (l : Listing) : Type 0 where
   pub low : 1 ≤ l .number
   pub high : l .number ≤ 512
   pub unit-is : 1 ≤ l .unit
@@ -20,26 +20,26 @@ pub record FineListing (day : Day) (name : List ℕ) (l : Listing) : Type 0 wher
   pub vacant-place : isEntered (securityAt day (l .number)) ≡ false
   pub free-name : takenName name (day .securities) (day .names) ≡ false
 
-pub record FineTrade (day : Day) (t : Trade) : Type 0 where
+pub record AcceptedTrade (day : Day) (t : Trade) : Type 0 where
   pub low : 1 ≤ t .security
   pub high : t .security ≤ 512
   pub entered-there : isEntered (securityAt day (t .security)) ≡ true
   pub side-is : LawfulSide (t .side)
 
-pub record FineCorrection (day : Day) (c : Correction) : Type 0 where
+pub record AcceptedCorrection (day : Day) (c : Correction) : Type 0 where
   pub low : 1 ≤ c .security
   pub high : c .security ≤ 512
   pub entered-there : isEntered (securityAt day (c .security)) ≡ true
   pub original-is : LawfulSide (c .original)
   pub correcting-is : LawfulSide (c .correcting)
 
-unfoldable pub Fine : Day → List ℕ → Line → Type 0
-Fine day name (Dated n) = Unit {0}
-Fine day name (Listed l) = FineListing day name l
-Fine day name (Moded m) = Unit {0}
-Fine day name (Leveled n) = n < 1000000000
-Fine day name (Stepped n) = Unit {0}
-Fine day name (Traded t) = FineTrade day t
-Fine day name (Cancelled t) = FineTrade day t
-Fine day name (Erred t) = FineTrade day t
-Fine day name (Corrected c) = FineCorrection day c
+unfoldable pub Accepted : Day → List ℕ → Line → Type 0
+Accepted day name (Dated n) = Unit {0}
+Accepted day name (Listed l) = AcceptedListing day name l
+Accepted day name (Moded m) = Unit {0}
+Accepted day name (Leveled n) = n < 1000000000
+Accepted day name (Stepped n) = Unit {0}
+Accepted day name (Traded t) = AcceptedTrade day t
+Accepted day name (Cancelled t) = AcceptedTrade day t
+Accepted day name (Erred t) = AcceptedTrade day t
+Accepted day name (Corrected c) = AcceptedCorrection day c

@@ -7,7 +7,7 @@ use Rattle.rules.specs.Columns.{between}
 use Rattle.rules.specs.Day.{Day, isEntered, securityAt, nameAt}
 use Rattle.compose.specs.Shown.{Enterable}
 
-pub record Held (day : Day) : Type 0 where
+pub record Invariant (day : Day) : Type 0 where
   pub securities-are : length (day .securities) ≡ 512
   pub names-are : length (day .names) ≡ 512
   pub enterable : (i : ℕ) → 1 ≤ i → i ≤ 512 → isEntered (securityAt day i) ≡ true → Enterable ((securityAt day i) .network) ((securityAt day i) .unit) (nameAt day i)

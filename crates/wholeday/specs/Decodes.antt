@@ -7,7 +7,7 @@ use lib.ListN.{length}
 use Rattle.rules.specs.Day.{Day, Call, tapeOf, after}
 use Rattle.rules.specs.Shown.{Fact, shownBy}
 use Rattle.decoder.specs.Carried.{Carried, carriedOf, next}
-use Rattle.decoder.specs.Decode.{Names, Found, there, decode}
+use Rattle.decoder.specs.Decode.{Names, there, decode}
 use Rattle.decoder.proofs.Fresh.{Fresh}
 
 pub record Told (names : Names) (day e : Day) (text : List ℕ) (f : Fact) : Type 0 where
@@ -20,14 +20,14 @@ pub record Silent (day e : Day) (text : List ℕ) : Type 0 where
   pub no-text : text ≡ []
   pub stays : carriedOf e ≡ carriedOf day
 
-abbrev pub Owed : Names → Day → Day → List ℕ → Option Fact → Type 0
-Owed names day e text none = Silent day e text
-Owed names day e text (some f) = Told names day e text f
+abbrev pub Decodes : Names → Day → Day → List ℕ → Option Fact → Type 0
+Decodes names day e text none = Silent day e text
+Decodes names day e text (some f) = Told names day e text f
 
 -- all along a list of calls
-abbrev pub AllOwed : Names → Day → List Call → Type 0
-AllOwed names day [] = Unit {0}
-AllOwed names day (c ∷ cs) = Owed names day (after day c) (tapeOf day c) (shownBy day c) × AllOwed names (after day c) cs
+abbrev pub AllDecode : Names → Day → List Call → Type 0
+AllDecode names day [] = Unit {0}
+AllDecode names day (c ∷ cs) = Decodes names day (after day c) (tapeOf day c) (shownBy day c) × AllDecode names (after day c) cs
 
 -- a list's tape is its prints joined in order
 unfoldable pub tape : Day → List Call → List ℕ
