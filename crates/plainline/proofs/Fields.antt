@@ -147,11 +147,11 @@ printable-digit c h =
     let m = leb-true c 57 (and-right (leb 48 c) (leb c 57) h) in
     rw (le-leb 32 c (omega arith), le-leb c 126 (omega arith))
 
-picked : (x y : Number) (b : Bool) (n : ℕ) → pick b x y ≡ Is n → b ≡ true → x ≡ Is n
+pub picked : (x y : Number) (b : Bool) (n : ℕ) → pick b x y ≡ Is n → b ≡ true → x ≡ Is n
 unfolding pick
 picked x y b n h e = rw e at h
 
-other-picked : (x y : Number) (b : Bool) (n : ℕ) → pick b x y ≡ Is n → b ≡ false → y ≡ Is n
+pub other-picked : (x y : Number) (b : Bool) (n : ℕ) → pick b x y ≡ Is n → b ≡ false → y ≡ Is n
 unfolding pick
 other-picked x y b n h e = rw e at h
 
@@ -188,11 +188,11 @@ blank-printable : (c : ℕ) → isBlank c ≡ true → isPrintable c ≡ true
 unfolding isPrintable between
 blank-printable c h = rw (is-blank c h)
 
-passed : (c : ℕ) (s : List ℕ) (n : ℕ) → numberIn (c ∷ s) ≡ Is n → isBlank c ≡ true → numberIn s ≡ Is n
+pub passed : (c : ℕ) (s : List ℕ) (n : ℕ) → numberIn (c ∷ s) ≡ Is n → isBlank c ≡ true → numberIn s ≡ Is n
 unfolding numberIn justified pick
 passed c s n h e = rw e at h
 
-kept : (c : ℕ) (s : List ℕ) (n : ℕ) → numberIn (c ∷ s) ≡ Is n → isBlank c ≡ false → numeral (c ∷ s) ≡ Is n
+pub kept : (c : ℕ) (s : List ℕ) (n : ℕ) → numberIn (c ∷ s) ≡ Is n → isBlank c ≡ false → numeral (c ∷ s) ≡ Is n
 unfolding numberIn justified pick
 kept c s n h e = rw e at h
 
@@ -255,6 +255,10 @@ line-printable line p l t h =
 
 -- ---- the line
 
+-- the price's columns, of the line and of its side
+drop-side : (line : List ℕ) → take 14 (drop 9 (firstSide line)) ≡ take 14 (drop 15 line)
+drop-side line = cut 14 9 46 (drop 6 line) (omega arith) ∙ rw (drop-drop 9 6 line)
+
 pub plain-line : (line : List ℕ) (p : Plain) → length line ≡ 100 → column 1 line ≡ 84 → PlainFields line p → PlainLine line p
 unfolding isShaped tradeFormed tradeRanged tradeOf isNumber valueOf plainTrade
 plain-line line p l t h = record {
@@ -263,6 +267,7 @@ plain-line line p l t h = record {
   formed = rw (h .security-is, h .market-is, h .market, side-formed (firstSide line) p (h .side), h .rest);
   ranged = rw (h .security-is, h .place, side-ranged (firstSide line) p (h .side));
   trade = rw (h .security-is, h .market-is, side-is (firstSide line) p (h .side), side-lawful (firstSide line) p (h .side), side-matched (firstSide line) p (h .side));
+  n-is = ap numberIn (sym (drop-side line)) ∙ h .side .n-is;
 }
 
 -- ---- a number from 1 up; nothing is promised of 0

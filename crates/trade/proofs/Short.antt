@@ -85,6 +85,9 @@ module _ (v : ℕ) (h : v < 10 ^ 20) where
   unfolding volumeText
   volume-short network unit = either _ shares-short (either _ hundreds-short tens-short)
 
+  pub volume-most : (network unit : ℕ) (shows : Bool) → length (opt shows (volumeText network unit v)) ≤ 32
+  volume-most network unit shows = (shown shows (volume-short network unit)) .within
+
 -- ---- prices
 
 module _ (p : Price) (h : p .n < 10 ^ 20) (l : p .d ≤ 8) where
@@ -103,6 +106,9 @@ module _ (p : Price) (h : p .n < 10 ^ 20) (l : p .d ≤ 8) where
   price-short : (full : Bool) → Most 29 (priceText full p)
   unfolding priceText
   price-short full = then (either full whole-short short-whole) fraction-short
+
+  pub price-most : (full : Bool) → length (priceText full p) ≤ 29
+  price-most full = price-short full .within
 
 -- ---- conditions
 
