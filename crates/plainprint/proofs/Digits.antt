@@ -1,0 +1,166 @@
+-- Laws of numbers in a line's columns: the digits of n, of its parts, and how many they are. Assumes nothing.
+use Prim.Native.Nat.{ℕ, zero, suc, _+_, _-_, _*_, _/_, _%_, _^_, _≤_, _<_}
+use native.Mathlib.Nat.{pow-succ', div-div-eq-div-mul, mod-eq-sub-mul-div, mod-eq-sub-div-mul, mul-div-mul-right, div-add-mod, mul-assoc, mul-comm, mul-sub, zero-mul, mul-pos, one-le-pow, div-lt-iff-lt-mul, le-div-iff-mul-le}
+use native.Mathlib.Omega.{arith}
+use mathlib.Core.Path.{_≡_, refl, sym, ap, _∙_}
+use mathlib.Core.Bool.{Bool, true, false}
+use mathlib.Core.List.{List, [], _∷_, _++_, append-assoc, append-nil}
+use lib.ListN.{length}
+use lib.Pow.{pow-add}
+use lib.Seq.{append-snoc}
+use lib.Dec.{eqb, leb}
+use borrow.Author.Tests.{eqb-false, leb-true}
+use Rattle.text.specs.Reading.{isDigit}
+use Rattle.text.specs.Decimal.{decimal, places}
+use Rattle.text.proofs.Decimal.{decimal-small, decimal-big, length-small, length-big}
+use Rattle.text.proofs.Texts.{and-left, and-right}
+use Rattle.rules.specs.declared.Number.the-variants.{Bad, Is}
+use Rattle.rules.specs.Columns.{isBlank, justified, digitsFrom, zeroAlone, numeral, numberIn}
+use Rattle.plainline.proofs.Fields.{picked, other-picked, passed, kept}
+
+-- ---- how many digits
+
+pub digits-are : (k w : ℕ) → 10 ^ k ≤ w → w < 10 ^ suc k → length (decimal w) ≡ suc k
+digits-are zero w h l = length-small w l
+digits-are (suc k) w h l =
+    let a : 10 * 10 ^ k ≤ w = rw (pow-succ' 10 k) at h in
+    let b : w < 10 * 10 ^ suc k = rw (pow-succ' 10 (suc k)) at l in
+    let o = one-le-pow k 10 (omega arith) in
+    length-big w (omega arith) ∙ ap suc (digits-are k (w / 10) (omega arith) (omega arith))
+
+-- ---- n in its columns
+
+digit-is : (c : ℕ) → isDigit c ≡ true → (48 ≤ c) × (c ≤ 57)
+unfolding isDigit
+digit-is c h = (leb-true 48 c (and-left (leb 48 c) (leb c 57) h), leb-true c 57 (and-right (leb 48 c) (leb c 57) h))
+
+same-number : (m n : ℕ) → Is m ≡ Is n → m ≡ n
+same-number m n e = cc
+
+not-bad : (n : ℕ) (s t : List ℕ) → Bad ≡ Is n → s ≡ t
+not-bad n s t h = cc
+
+-- one digit more
+decimal-more : (a c : ℕ) → 1 ≤ a → 48 ≤ c → c ≤ 57 → decimal (a * 10 + (c - 48)) ≡ decimal a ++ (c ∷ [])
+decimal-more a c h k l =
+    let q : (a * 10 + (c - 48)) / 10 ≡ a = omega arith in
+    let r : 48 + (a * 10 + (c - 48)) % 10 ≡ c = omega arith in
+    decimal-big (a * 10 + (c - 48)) (omega arith) ∙ rw (q, r)
+
+-- the digits of a and those that are left are the digits of n
+onto : (s : List ℕ) (a n : ℕ) → digitsFrom a s ≡ Is n → 1 ≤ a → decimal n ≡ decimal a ++ s
+unfolding digitsFrom
+onto [] a n e h = rw (append-nil (decimal a)) (ap decimal (sym (same-number a n e)))
+onto (c ∷ s) a n e h = go (isDigit c) refl (onto s (a * 10 + (c - 48)) n)
+  where
+    go : (b : Bool) → isDigit c ≡ b → (digitsFrom (a * 10 + (c - 48)) s ≡ Is n → 1 ≤ a * 10 + (c - 48) → decimal n ≡ decimal (a * 10 + (c - 48)) ++ s) → decimal n ≡ decimal a ++ (c ∷ s)
+    go true q ih =
+        let d = digit-is c q in
+        ih (picked _ Bad (isDigit c) n e q) (omega arith) ∙ (ap (λ (l : List ℕ). l ++ s) (decimal-more a c h (d .0) (d .1)) ∙ append-snoc (decimal a) c s)
+    go false q ih = not-bad n _ _ (other-picked (digitsFrom (a * 10 + (c - 48)) s) Bad (isDigit c) n e q)
+
+first-digit : (c : ℕ) (s : List ℕ) (n : ℕ) → digitsFrom 0 (c ∷ s) ≡ Is n → (c ≡ 48 → ⊥) → decimal n ≡ c ∷ s
+unfolding digitsFrom
+first-digit c s n e z = go (isDigit c) refl
+  where
+    go : (b : Bool) → isDigit c ≡ b → decimal n ≡ c ∷ s
+    go true q =
+        let d = digit-is c q in
+        let a : ℕ = 0 * 10 + (c - 48) in
+        let v : 48 + a ≡ c = omega arith in
+        onto s a n (picked _ Bad (isDigit c) n e q) (omega arith) ∙ rw (decimal-small a (omega arith), v)
+    go false q = not-bad n _ _ (other-picked (digitsFrom (0 * 10 + (c - 48)) s) Bad (isDigit c) n e q)
+
+zero-alone : (s : List ℕ) (n : ℕ) → zeroAlone s ≡ Is n → 1 ≤ n → ⊥
+unfolding zeroAlone
+zero-alone [] n e h = let z = same-number 0 n e in omega arith
+zero-alone (c ∷ s) n e h = let z : _≡_ {A = ℕ} 0 1 = cc in omega arith
+
+numeral-is : (c : ℕ) (s : List ℕ) (n : ℕ) → numeral (c ∷ s) ≡ Is n → 1 ≤ n → decimal n ≡ c ∷ s
+unfolding numeral
+numeral-is c s n e h = go (eqb c 48) refl
+  where
+    go : (b : Bool) → eqb c 48 ≡ b → decimal n ≡ c ∷ s
+    go true q = absurd (zero-alone s n (picked _ (digitsFrom 0 (c ∷ s)) (eqb c 48) n e q) h)
+    go false q = first-digit c s n (other-picked (zeroAlone s) _ (eqb c 48) n e q) (eqb-false c 48 q)
+
+-- a text ends with another
+pub record Ends (s t : List ℕ) : Type 0 where
+  pub head : List ℕ
+  pub whole : s ≡ head ++ t
+
+no-number : (n : ℕ) → numberIn [] ≡ Is n → ⊥
+unfolding numberIn justified numeral
+no-number n e = let z : _≡_ {A = ℕ} 0 1 = cc in omega arith
+
+-- blanks, then the digits of n
+pub number-ends : (s : List ℕ) (n : ℕ) → numberIn s ≡ Is n → 1 ≤ n → Ends s (decimal n)
+number-ends [] n e h = absurd (no-number n e)
+number-ends (c ∷ s) n e h = go (isBlank c) refl (number-ends s n)
+  where
+    go : (b : Bool) → isBlank c ≡ b → (numberIn s ≡ Is n → 1 ≤ n → Ends s (decimal n)) → Ends (c ∷ s) (decimal n)
+    go true q ih = let t = ih (passed c s n e q) h in record { head = c ∷ t .head; whole = ap (λ (l : List ℕ). c ∷ l) (t .whole) }
+    go false q ih = record { head = []; whole = sym (numeral-is c s n (kept c s n e q) h) }
+
+-- ---- the digits of its parts
+
+pub decimal-parts : (d n : ℕ) → 10 ^ d ≤ n → decimal n ≡ decimal (n / 10 ^ d) ++ places d n
+unfolding places
+decimal-parts zero n h = let q : n / 1 ≡ n = omega arith in rw (q, append-nil (decimal n))
+decimal-parts (suc d) n h =
+    let a : 10 * 10 ^ d ≤ n = rw (pow-succ' 10 d) at h in
+    let o = one-le-pow d 10 (omega arith) in
+    let q : n / 10 / 10 ^ d ≡ n / 10 ^ suc d = div-div-eq-div-mul n 10 (10 ^ d) ∙ rw (pow-succ' 10 d) in
+    decimal-big n (omega arith) ∙ (ap (λ (l : List ℕ). l ++ ((48 + n % 10) ∷ [])) (decimal-parts d (n / 10) (omega arith)) ∙ rw (q, append-assoc))
+
+-- the last d digits are those of the remainder
+pub places-mod : (d n : ℕ) → places d (n % 10 ^ d) ≡ places d n
+unfolding places
+places-mod zero n = refl
+places-mod (suc d) n =
+    let p : ℕ = 10 ^ d in
+    let x : ℕ = p * (n / 10 / p) in
+    let e : n % 10 ^ suc d ≡ n - 10 * x = rw (pow-succ' 10 d) (mod-eq-sub-mul-div n (10 * p) ∙ rw (← div-div-eq-div-mul n 10 p, mul-assoc)) in
+    let f = div-add-mod (n / 10) p in
+    let a : n % 10 ^ suc d / 10 ≡ n / 10 % p = omega arith in
+    let b : n % 10 ^ suc d % 10 ≡ n % 10 = omega arith in
+    rw (a, b, places-mod d (n / 10))
+
+-- ---- in units
+
+sub-mul : (a b m : ℕ) → (a - b) * m ≡ a * m - b * m
+sub-mul a b m = mul-comm (a - b) m ∙ (mul-sub m a b ∙ rw (mul-comm m a, mul-comm m b))
+
+module _ (n d : ℕ) (h : d ≤ 8) where
+  scale : 10 ^ 8 ≡ 10 ^ d * 10 ^ (8 - d)
+  scale = let e : d + (8 - d) ≡ 8 = omega arith in rw (← pow-add 10 d (8 - d), e)
+
+  some : 0 < 10 ^ (8 - d)
+  some = one-le-pow (8 - d) 10 (omega arith)
+
+  pub whole-units : n * 10 ^ (8 - d) / 100000000 ≡ n / 10 ^ d
+  whole-units = ap (λ (k : ℕ). n * 10 ^ (8 - d) / k) scale ∙ mul-div-mul-right n (10 ^ d) some
+
+  -- what is left of a dollar, by value
+  pub cents-units : n * 10 ^ (8 - d) % 100000000 ≡ n % 10 ^ d * 10 ^ (8 - d)
+  cents-units =
+      let m : ℕ = 10 ^ (8 - d) in
+      let k : ℕ = 10 ^ d in
+      ap (λ (j : ℕ). n * m % j) scale ∙ (mod-eq-sub-div-mul (n * m) (k * m) ∙ rw (mul-div-mul-right n k some, ← mul-assoc (n / k) k m, mod-eq-sub-div-mul n k) (sym (sub-mul n (n / k * k) m)))
+
+  pub no-cents : n * 10 ^ (8 - d) % 100000000 ≡ 0 → n % 10 ^ d ≡ 0
+  no-cents e = go (n % 10 ^ d) (sym cents-units ∙ e)
+    where
+      go : (f : ℕ) → f * 10 ^ (8 - d) ≡ 0 → f ≡ 0
+      go zero q = refl
+      go (suc f) q = absurd (omega (arith, mul-pos {m = suc f} {n = 10 ^ (8 - d)} (omega arith) some))
+
+  pub some-cents : (n * 10 ^ (8 - d) % 100000000 ≡ 0 → ⊥) → n % 10 ^ d ≡ 0 → ⊥
+  some-cents z e = z (cents-units ∙ rw e (zero-mul (10 ^ (8 - d))))
+
+  -- a whole part below a million, and one from 1 up
+  pub whole-below : n < 10 ^ (6 + d) → n / 10 ^ d < 1000000
+  whole-below l = div-lt-iff-lt-mul {k = 10 ^ d} {x = n} {y = 1000000} (one-le-pow d 10 (omega arith)) .1 (rw (pow-add 10 6 d) at l)
+
+  pub whole-from : (n / 10 ^ d ≡ 0 → ⊥) → 10 ^ d ≤ n
+  whole-from z = omega (arith, le-div-iff-mul-le {k = 10 ^ d} {x = 1} {y = n} (one-le-pow d 10 (omega arith)) .0 (omega arith))

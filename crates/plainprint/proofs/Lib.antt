@@ -1,0 +1,4 @@
+pub mod Layers
+pub mod Names
+pub mod Digits
+pub mod Prices

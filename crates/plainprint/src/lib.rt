@@ -1,0 +1,230 @@
+// The print of a plain trade: name, volume where it is shown, price. Each is laid in a scratch by columns of fixed width, over
+// what the one before it left behind its text; the whole is then written to the tape.
+use rules::Price;
+use rules::Security;
+ghost use mathlib.Core.Path.{_≡_};
+ghost use mathlib.Core.List.{_++_};
+ghost use Prim.Native.Nat.{_+_, _-_, _≤_, _<_};
+ghost use lib.ListN.{length, take, drop};
+ghost use Rattle.text.specs.Bytes.{bytes};
+ghost use Rattle.text.specs.Pick.{pick, opt};
+ghost use Rattle.text.specs.Put.{Written};
+ghost use Rattle.text.specs.Decimal.{decimal};
+ghost use Rattle.rules.specs.Columns.{word};
+ghost use Rattle.rules.specs.Names.{partText, nameText};
+ghost use Rattle.rules.specs.Price.{wholeText, shortWhole, priceText};
+ghost use Rattle.words.specs.Word.{WordOf};
+ghost use Rattle.plainprint.specs.Laid.{Laid};
+ghost use Rattle.plainprint.specs.Print.{plainText, dotText, Columned};
+
+// ---- the name
+
+// The length of the text at a field's left, up to the first blank: every column is looked at.
+fn word_size(field: &[u8]) -> usize
+    ensures { λ r. ⌜ WordOf (now (field .entry)) r ⌝ }
+{
+    let mut n: usize = 0;
+    let mut step: usize = 1;
+    let mut i = 0;
+    while i < field.len() {
+        if field[i] == 32 {
+            step = 0;
+        }
+        n += step;
+        i += 1;
+    }
+    n
+}
+
+// 1 where a part that begins with this byte has a letter dot before it: not a blank, not a raised letter.
+fn dot_size(b: u8) -> usize
+    ensures { λ r. ⌜ (r ≡ length (dotText b)) × (r ≤ 1) ⌝ }
+{
+    if b == 32 {
+        return 0;
+    }
+    if b == b'p' {
+        return 0;
+    }
+    if b == b'r' {
+        return 0;
+    }
+    if b == b'w' {
+        return 0;
+    }
+    1
+}
+
+// Every column is laid; the text is their front.
+fn lay_word(rest: &mut [u8], field: &[u8]) -> usize
+    requires { ⌜ length (now field) ≤ length (now rest) ⌝ }
+    ensures { λ r. ⌜ Laid (word (now (field .entry))) (now (rest .entry)) (now (rest .exit)) r × (r ≤ length (now (field .entry))) ⌝ }
+{
+    text::write_bytes(rest, field);
+    word_size(field)
+}
+
+// A part after the root.
+fn lay_part(rest: &mut [u8], field: &[u8]) -> usize
+    requires { ⌜ (1 ≤ length (now field)) × (length (now field) + 1 ≤ length (now rest)) ⌝ }
+    ensures { λ r. ⌜ Laid (partText (word (now (field .entry)))) (now (rest .entry)) (now (rest .exit)) r × (r ≤ length (now (field .entry)) + 1) ⌝ }
+{
+    rest[0] = b'.';
+    let k = dot_size(field[0]);
+    k + lay_word(&mut rest[k..], field)
+}
+
+// A part that is blank for most securities, or not shown.
+fn lay_shown(rest: &mut [u8], field: &[u8], shown: bool) -> usize
+    requires { ⌜ (1 ≤ length (now field)) × (length (now field) + 1 ≤ length (now rest)) ⌝ }
+    ensures { λ r. ⌜ Laid (opt shown (partText (word (now (field .entry))))) (now (rest .entry)) (now (rest .exit)) r × (r ≤ length (now (field .entry)) + 1) ⌝ }
+{
+    if !shown {
+        return 0;
+    }
+    if field[0] == 32 {
+        return 0;
+    }
+    lay_part(rest, field)
+}
+
+// Root, suffix, temporary suffix where it is shown, appendage.
+fn lay_name(rest: &mut [u8], name: &[u8], temporary: bool) -> usize
+    requires { ⌜ (length (now name) ≡ 19) × (22 ≤ length (now rest)) ⌝ }
+    ensures { λ r. ⌜ Laid (nameText temporary (now (name .entry))) (now (rest .entry)) (now (rest .exit)) r × (r ≤ 22) ⌝ }
+{
+    let a = lay_word(rest, &name[..6]);
+    let b = a + lay_part(&mut rest[a..], &name[6..13]);
+    let c = b + lay_shown(&mut rest[b..], &name[13..17], temporary);
+    c + lay_shown(&mut rest[c..], &name[17..19], true)
+}
+
+// ---- the price
+
+// The digits of a whole part from 1 to 999,999.
+fn whole_size(w: u64) -> usize
+    requires { ⌜ w < 1000000 ⌝ }
+    ensures { λ r. ⌜ (r ≡ length (decimal w)) × (1 ≤ r) × (r ≤ 6) ⌝ }
+{
+    if w < 10 {
+        return 1;
+    }
+    if w < 100 {
+        return 2;
+    }
+    if w < 1000 {
+        return 3;
+    }
+    if w < 10000 {
+        return 4;
+    }
+    if w < 100000 {
+        return 5;
+    }
+    6
+}
+
+// The columns of the dollars that are printed.
+fn dollars_size(full: bool, w: u64) -> usize
+    requires { ⌜ (1 ≤ w) × (w < 1000000) ⌝ }
+    ensures { λ r. ⌜ (r ≡ length (pick full (wholeText w) (shortWhole w))) × (1 ≤ r) × (r ≤ 6) ⌝ }
+{
+    if full {
+        return whole_size(w);
+    }
+    1
+}
+
+// k columns of dollars, figure dot, d columns of cents: n ends in column 14.
+fn lay_columns(rest: &mut [u8], columns: &[u8], k: usize, d: usize) -> usize
+    requires { ⌜ (length (now columns) ≡ 22) × (k ≤ 6) × (d ≤ 8) × (15 ≤ length (now rest)) ⌝ }
+    ensures { λ r. ⌜ Laid (take k (drop (14 - d - k) (now (columns .entry))) ++ bytes "," ++ take d (drop (14 - d) (now (columns .entry)))) (now (rest .entry)) (now (rest .exit)) r ⌝ }
+{
+    let point = 14 - d;
+    let from = point - k;
+    let to = from + 6;
+    text::write_bytes(rest, &columns[from..to]);
+    rest[k] = b',';
+    let j = k + 1;
+    let end = point + 8;
+    text::write_bytes(&mut rest[j..], &columns[point..end]);
+    j + d
+}
+
+// A price with a whole part is in the line's own columns.
+fn lay_price(
+    rest: &mut [u8],
+    full: bool,
+    price: Price,
+    columns: &[u8],
+    value: u64,
+    whole: u64,
+) -> usize
+    requires { ⌜ Columned (now columns) price value whole × (29 ≤ length (now rest)) ⌝ }
+    ensures { λ r. ⌜ Laid (priceText full price) (now (rest .entry)) (now (rest .exit)) r ⌝ }
+{
+    if whole == 0 {
+        return prices::write_price(rest, full, price);
+    }
+    let k = dollars_size(full, whole);
+    let m = lay_columns(rest, columns, k, price.d as usize);
+    if value % 100000000 == 0 {
+        return k; // no cents
+    }
+    m
+}
+
+// ---- the print
+
+// Name, volume where it is shown, price.
+fn lay_text(
+    rest: &mut [u8],
+    name: &[u8],
+    s: Security,
+    full: bool,
+    shows: bool,
+    volume: u64,
+    price: Price,
+    columns: &[u8],
+    value: u64,
+    whole: u64,
+) -> usize
+    requires { ⌜ (length (now name) ≡ 19) × (1 ≤ s .unit) × Columned (now columns) price value whole × (96 ≤ length (now rest)) ⌝ }
+    ensures { λ r. ⌜ Laid (plainText (now (name .entry)) s full shows volume price) (now (rest .entry)) (now (rest .exit)) r ⌝ }
+{
+    let a = lay_name(rest, name, qualifying::shows_temporary(s));
+    let b = a + trade::write_shown_volume(&mut rest[a..], shows, s.network, s.unit, volume);
+    b + lay_price(&mut rest[b..], full, price, columns, value, whole)
+}
+
+// `columns` are 22 of the trade's line, n in the first 14; `value` is the price in units, `whole` its whole part.
+pub fn write_text(
+    rest: &mut [u8],
+    name: &[u8],
+    s: Security,
+    full: bool,
+    shows: bool,
+    volume: u64,
+    price: Price,
+    columns: &[u8],
+    value: u64,
+    whole: u64,
+) -> usize
+    requires { ⌜ (length (now name) ≡ 19) × (1 ≤ s .unit) × Columned (now columns) price value whole × (length (plainText (now name) s full shows volume price) ≤ length (now rest)) ⌝ }
+    ensures { λ r. ⌜ Written (plainText (now (name .entry)) s full shows volume price) (now (rest .entry)) (now (rest .exit)) r ⌝ }
+{
+    let mut scratch = [0u8; 96];
+    let n = lay_text(
+        &mut scratch,
+        name,
+        s,
+        full,
+        shows,
+        volume,
+        price,
+        columns,
+        value,
+        whole,
+    );
+    text::write_bytes(rest, &scratch[..n])
+}
