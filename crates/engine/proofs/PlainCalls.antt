@@ -6,9 +6,10 @@ use mathlib.Core.Bool.{Bool, true, false, _&&_, _||_, not}
 use mathlib.Core.List.{List, []}
 use lib.Dec.{eqb, ltb}
 use lib.ListN.{length}
-use borrow.Author.Tests.{le-ltb, ne-eqb, not-false}
+use borrow.Author.Tests.{eqb-true, le-ltb, ne-eqb, not-false}
 use Rattle.text.specs.Put.{put, Written}
 use Rattle.text.specs.Pick.{pick, opt, among}
+use Rattle.text.proofs.Texts.{and-left}
 use Rattle.rules.specs.Columns.{column}
 use Rattle.rules.specs.Conditions.{onNetwork}
 use Rattle.rules.specs.Day.{isEntered}
@@ -23,7 +24,7 @@ use Rattle.rules.specs.declared.Refusal.the-variants.{Room}
 use Rattle.table.specs.Rows.{row, withRow, nameOf}
 use Rattle.plainline.specs.declared.Plain.{Plain}
 use Rattle.plainline.specs.Plain.{noLetters, plainSide, plainTrade, PlainLine}
-use Rattle.plaintrade.specs.Plain.{tradeText, Ready}
+use Rattle.plaintrade.specs.Plain.{tradeText, Ready, ReadFrom}
 use Rattle.planner.specs.declared.TradePlan.{TradePlan}
 use Rattle.planner.specs.declared.Plan.{Plan}
 use Rattle.planner.specs.declared.Plan.the-variants.{Stop, Print}
@@ -103,6 +104,10 @@ unfolding plainTrade plainSide
 plain-ready st table line p h =
     let q = sound line p (h .line-is) in
     record { low = q .low; high = q .high; unit-is = has-unit (row table (p .security - 1)) (ap not (h .entered)); price-is = q .price }
+
+pub plain-read : (st : Settings) (table line : List ℕ) (p : Plain) → PlainCall st table line p → ReadFrom line p
+unfolding isShaped
+plain-read st table line p h = record { size = eqb-true (length line) 100 (and-left (eqb (length line) 100) _ (h .line-is .shaped)); n-is = h .line-is .n-is }
 
 -- ---- the call
 

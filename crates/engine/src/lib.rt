@@ -238,7 +238,7 @@ pub fn take_line(
     }
     let p = plain_at(st, table, line);
     if 1 <= p.security {
-        let k = plaintrade::take_plain(st, table, names, p, tape);
+        let k = plaintrade::take_plain(st, table, names, p, line, tape);
         return Answer {
             outcome: Outcome::Accepted(k),
             settings: st,

@@ -1,5 +1,5 @@
 -- Laws of plain trades, in the form of the code's needs; and that they are what `rules` says of a side without letters. Assumes nothing.
-use Prim.Native.Nat.{ℕ, _+_, _-_, _*_, _^_, _≤_, _<_}
+use Prim.Native.Nat.{ℕ, _+_, _-_, _*_, _/_, _^_, _≤_, _<_}
 use native.Mathlib.Nat.{pow-le-pow-right}
 use native.Mathlib.Omega.{arith}
 use mathlib.Core.Path.{_≡_, refl, sym, ap, _∙_}
@@ -8,6 +8,7 @@ use mathlib.Core.List.{List, [], _∷_, _++_, append-nil}
 use lib.Dec.{eqb}
 use borrow.Author.Tests.{not-true, not-false}
 use lib.ListN.{length, take, drop, length-take, length-drop}
+use lib.Seq.{take-take}
 use Rattle.text.specs.Pick.{pick, opt}
 use Rattle.text.specs.Put.{Written}
 use Rattle.text.proofs.Writing.{written-nothing}
@@ -18,8 +19,7 @@ use Rattle.rules.specs.declared.Side.{Side}
 use Rattle.rules.specs.declared.Settings.{Settings}
 use Rattle.rules.specs.declared.Security.{Security}
 use Rattle.rules.specs.Names.{nameText}
-use Rattle.rules.specs.Volume.{volumeText}
-use Rattle.rules.specs.Price.{wholePart, units, priceText}
+use Rattle.rules.specs.Price.{wholePart, units}
 use Rattle.rules.specs.Side.{headText, tailText, sideText}
 use Rattle.rules.specs.Day.{showsTemporary}
 use Rattle.rules.specs.Conditions.{hasRule, afterName, afterPrice, atEnd}
@@ -31,7 +31,9 @@ use Rattle.symbol.proofs.Text.{name-short, name-most}
 use Rattle.table.specs.Rows.{row, withRow, nameOf}
 use Rattle.plainline.specs.declared.Plain.{Plain}
 use Rattle.plainline.specs.Plain.{noLetters, plainSide}
-use Rattle.plaintrade.specs.Plain.{tradeText, anyhow, plainRpo, plainMpv, byMode, plainPrints, plainFull, plainShows, plainAfter, plainText, plainPrint, Ready}
+use Rattle.plaintrade.specs.Plain.{tradeText, anyhow, plainRpo, plainMpv, byMode, plainPrints, plainFull, plainShows, plainAfter, plainPrint, priceOf, Ready, ReadFrom}
+use Rattle.plainprint.specs.Print.{plainText, Columned}
+use Rattle.plainprint.proofs.Digits.{whole-units}
 
 -- ---- by mode
 
@@ -69,19 +71,23 @@ after-it s market value prints a b printed high low trades qualified primaries e
 
 -- ---- the name at a place
 
-module _ (names : List ℕ) (i : ℕ) (temporary : Bool) where
-  slot : take (i * 19 + 19 - i * 19) (drop (i * 19) names) ≡ nameOf names i
+-- as the code cuts it out
+abbrev cutOut : List ℕ → ℕ → List ℕ
+cutOut names i = take (i * 19 + 19 - i * 19) (drop (i * 19) names)
+
+module _ (names : List ℕ) (i : ℕ) where
+  slot : cutOut names i ≡ nameOf names i
   unfolding nameOf
   slot = let q : i * 19 + 19 - i * 19 ≡ 19 = omega arith in rw q
 
-  pub slot-length : i < 512 → length names ≡ 9728 → length (take (i * 19 + 19 - i * 19) (drop (i * 19) names)) ≡ 19
+  pub slot-length : i < 512 → length names ≡ 9728 → length (cutOut names i) ≡ 19
   slot-length h l = rw (length-take, length-drop) (omega arith)
 
-  pub slot-room : (m : ℕ) → i < 512 → length names ≡ 9728 → 22 ≤ m → length (nameText temporary (take (i * 19 + 19 - i * 19) (drop (i * 19) names))) ≤ m
-  slot-room m h l k = omega (arith, name-short temporary (take (i * 19 + 19 - i * 19) (drop (i * 19) names)) (slot-length h l))
+  pub slot-room : (temporary : Bool) (m : ℕ) → i < 512 → length names ≡ 9728 → 22 ≤ m → length (nameText temporary (cutOut names i)) ≤ m
+  slot-room temporary m h l k = omega (arith, name-short temporary (cutOut names i) (slot-length h l))
 
-  pub slot-written : (b a : List ℕ) (r : ℕ) → Written (nameText temporary (take (i * 19 + 19 - i * 19) (drop (i * 19) names))) b a r → Written (nameText temporary (nameOf names i)) b a r
-  slot-written b a r w = rw (← slot) w
+  pub slot-written : (temporary : Bool) (b a : List ℕ) (r : ℕ) → Written (nameText temporary (cutOut names i)) b a r → Written (nameText temporary (nameOf names i)) b a r
+  slot-written temporary b a r w = rw (← slot) w
 
 -- ---- what `rules` says of a side without letters
 
@@ -135,8 +141,19 @@ module _ (st : Settings) (s : Security) (market volume n d : ℕ) where
 
 -- ---- the print, written
 
-pub told-name : (s : Security) (t : Bool) (name b a : List ℕ) (r : ℕ) → t ≡ showsTemporary s → Written (nameText t name) b a r → Written (nameText (showsTemporary s) name) b a r
-told-name s t name b a r e w = rw e at w
+whole-is : (s : Security) (p : Plain) (value : ℕ) → Ready s p → value ≡ units (priceOf p) → value / 100000000 ≡ wholePart (priceOf p)
+unfolding units wholePart
+whole-is s p value h e = rw e (whole-units (p .n) (p .d) (h .price-is .decimals))
+
+-- the columns of the line that begin with the price's
+pub columned : (line : List ℕ) (s : Security) (p : Plain) (value : ℕ) → ReadFrom line p → Ready s p → value ≡ units (priceOf p) → Columned (take 22 (drop 15 line)) (priceOf p) value (value / 100000000)
+columned line s p value r h e = record {
+  size = rw (length-take, length-drop) (omega (arith, r .size));
+  n-is = rw (take-take 14 22 (drop 15 line) (omega arith)) (r .n-is);
+  sound = h .price-is;
+  value-is = e;
+  whole-is = whole-is s p value h e;
+}
 
 -- no longer than the tape that is lent
 module _ (names : List ℕ) (s : Security) (p : Plain) where
@@ -151,9 +168,9 @@ module _ (names : List ℕ) (s : Security) (p : Plain) where
     previous-decimals = omega arith;
   }
 
-  pub plain-room : (full shows : Bool) (m : ℕ) → Ready s p → p .volume < 10 ^ 20 → 200 ≤ m → length (plainText (nameOf names (p .security - 1)) s full shows (p .volume) (record { n = p .n; d = p .d })) ≤ m
+  pub plain-room : (full shows : Bool) (m : ℕ) → Ready s p → p .volume < 10 ^ 20 → 200 ≤ m → length (plainText (cutOut names (p .security - 1)) s full shows (p .volume) (priceOf p)) ≤ m
   plain-room full shows m h v k =
-      let name : List ℕ = nameOf names (p .security - 1) in
+      let name : List ℕ = cutOut names (p .security - 1) in
       let a = side-short (plainSide (p .volume) (p .n) (p .d)) (short h v) (nameText (showsTemporary s) name) (s .network) (s .unit) full shows in
       let b = name-most (showsTemporary s) name in
       omega (arith, ap length (text-is s (p .volume) (p .n) (p .d) name full shows), a, b)
@@ -163,10 +180,10 @@ module _ (st : Settings) (s : Security) (names : List ℕ) (p : Plain) (prints :
   unfolding plainPrint opt
   unprinted b h = rw (not-true prints h) (written-nothing b)
 
-  pub printed : (w r : ℕ) (full shows : Bool) (b a : List ℕ) → not prints ≡ false → w ≡ wholePart (record { n = p .n; d = p .d }) → full ≡ plainFull st s (p .market) w → shows ≡ plainShows st s (p .market) (p .volume)
-      → Written (plainText (nameOf names (p .security - 1)) s full shows (p .volume) (record { n = p .n; d = p .d })) b a r → Written (plainPrint st s names p prints) b a r
+  pub printed : (value r : ℕ) (full shows : Bool) (b a : List ℕ) → Ready s p → value ≡ units (priceOf p) → not prints ≡ false → full ≡ plainFull st s (p .market) (value / 100000000) → shows ≡ plainShows st s (p .market) (p .volume)
+      → Written (plainText (cutOut names (p .security - 1)) s full shows (p .volume) (priceOf p)) b a r → Written (plainPrint st s names p prints) b a r
   unfolding plainPrint opt
-  printed w r full shows b a h e f g t = rw (not-false prints h, ← e, ← f, ← g) t
+  printed value r full shows b a q v h f g t = rw (not-false prints h, ← whole-is s p value q v, ← f, ← g, ← slot names (p .security - 1)) t
 
 -- ---- the whole trade
 

@@ -1,7 +1,9 @@
 -- What a trade of a volume and a price alone does: `value` is its price in units, `whole` its whole part. Assumes nothing.
 use Prim.Native.Nat.{ℕ, _-_, _≤_}
 use mathlib.Core.Bool.{Bool, true, false, _||_}
-use mathlib.Core.List.{List, _++_}
+use mathlib.Core.Path.{_≡_}
+use mathlib.Core.List.{List}
+use lib.ListN.{length}
 use lib.Dec.{eqb}
 use Rattle.text.specs.Pick.{pick, opt}
 use Rattle.rules.specs.declared.Mode.{Mode}
@@ -10,14 +12,16 @@ use Rattle.rules.specs.declared.Price.{Price}
 use Rattle.rules.specs.declared.Side.{Side}
 use Rattle.rules.specs.declared.Settings.{Settings}
 use Rattle.rules.specs.declared.Security.{Security}
+use Rattle.rules.specs.declared.Number.the-variants.{Is}
+use Rattle.rules.specs.Columns.{columns, numberIn}
 use Rattle.rules.specs.Names.{nameText}
-use Rattle.rules.specs.Volume.{volumeText}
-use Rattle.rules.specs.Price.{wholePart, priceText}
+use Rattle.rules.specs.Price.{wholePart}
 use Rattle.rules.specs.Side.{sideText}
 use Rattle.rules.specs.Day.{showsTemporary}
 use Rattle.rules.specs.Trade.{six, atLevel, newHigh, newLow, unlikePrinted, farFromPrinted, isNormal, fullAt, counted, printsTrade, tradeFull, tradeShows}
 use Rattle.prices.specs.Sound.{Sound}
 use Rattle.table.specs.Rows.{nameOf}
+use Rattle.plainprint.specs.Print.{plainText}
 use Rattle.plainline.specs.declared.Plain.{Plain}
 
 -- ---- as rules has it for any side: the print of a trade, under the name at its security's place
@@ -63,18 +67,20 @@ plainAfter s market value prints = record {
   primaries = counted (eqb market (s .market)) 6 (s .primaries);
 }
 
--- name, volume, price
-unfoldable pub plainText : List ℕ → Security → Bool → Bool → ℕ → Price → List ℕ
-plainText name s full shows volume price = nameText (showsTemporary s) name ++ opt shows (volumeText (s .network) (s .unit) volume) ++ priceText full price
+abbrev pub priceOf : Plain → Price
+priceOf p = record { n = p .n; d = p .d }
 
 unfoldable pub plainPrint : Settings → Security → List ℕ → Plain → Bool → List ℕ
-plainPrint st s names p prints =
-    let price : Price = record { n = p .n; d = p .d } in
-    opt prints (plainText (nameOf names (p .security - 1)) s (plainFull st s (p .market) (wholePart price)) (plainShows st s (p .market) (p .volume)) (p .volume) price)
+plainPrint st s names p prints = opt prints (plainText (nameOf names (p .security - 1)) s (plainFull st s (p .market) (wholePart (priceOf p))) (plainShows st s (p .market) (p .volume)) (p .volume) (priceOf p))
 
 -- ---- a security entered, and a trade within its values
 pub record Ready (s : Security) (p : Plain) : Type 0 where
   pub low : 1 ≤ p .security
   pub high : p .security ≤ 512
   pub unit-is : 1 ≤ s .unit
-  pub price-is : Sound (record { n = p .n; d = p .d })
+  pub price-is : Sound (priceOf p)
+
+-- ---- the line that a trade was read from: n stands in its columns
+pub record ReadFrom (line : List ℕ) (p : Plain) : Type 0 where
+  pub size : length line ≡ 100
+  pub n-is : numberIn (columns 16 29 line) ≡ Is (p .n)

@@ -10,10 +10,11 @@ ghost use Prim.Native.Nat.{_-_, _≤_, _<_};
 ghost use lib.ListN.{length};
 ghost use Rattle.text.specs.Put.{Written};
 ghost use Rattle.rules.specs.Names.{nameText};
+ghost use Rattle.rules.specs.Price.{units};
 ghost use Rattle.rules.specs.Trade.{afterTrade};
 ghost use Rattle.table.specs.Rows.{row, withRow, nameOf};
 ghost use Rattle.plainline.specs.Plain.{plainSide};
-ghost use Rattle.plaintrade.specs.Plain.{anyhow, plainRpo, plainMpv, plainPrints, plainFull, plainShows, plainAfter, plainText, plainPrint, tradeText, Ready};
+ghost use Rattle.plaintrade.specs.Plain.{anyhow, plainRpo, plainMpv, plainPrints, plainFull, plainShows, plainAfter, plainPrint, tradeText, priceOf, Ready, ReadFrom};
 
 // ---- what prints
 
@@ -130,57 +131,56 @@ pub fn write_name(buffer: &mut [u8], names: &[u8; 9728], place: usize, temporary
     symbol::write_name(buffer, &all[from..to], temporary)
 }
 
-// Name, volume where it is shown, price.
-fn write_text(
-    rest: &mut [u8],
-    names: &[u8; 9728],
-    place: usize,
-    s: Security,
-    full: bool,
-    shows: bool,
-    volume: u64,
-    price: Price,
-) -> usize
-    requires { ⌜ (place < 512) × (1 ≤ s .unit) × (price .d ≤ 8) × (22 ≤ length (now rest)) × (length (plainText (nameOf (now names) place) s full shows volume price) ≤ length (now rest)) ⌝ }
-    ensures { λ r. ⌜ Written (plainText (nameOf (now (names .entry)) place) s full shows volume price) (now (rest .entry)) (now (rest .exit)) r ⌝ }
-{
-    let at = write_name(rest, names, place, qualifying::shows_temporary(s));
-    let at2 = at + trade::write_shown_volume(&mut rest[at..], shows, s.network, s.unit, volume);
-    at2 + prices::write_price(&mut rest[at2..], full, price)
-}
-
-// Where it prints.
+// Where it prints. `value` is its price in units, and the line it was read from has the price's digits.
 fn write_plain(
     rest: &mut [u8],
     names: &[u8; 9728],
     st: Settings,
     s: Security,
     p: Plain,
+    line: &[u8],
+    value: u64,
     prints: bool,
 ) -> usize
-    requires { ⌜ Ready s p × (200 ≤ length (now rest)) ⌝ }
+    requires { ⌜ Ready s p × ReadFrom (now line) p × (value ≡ units (priceOf p)) × (200 ≤ length (now rest)) ⌝ }
     ensures { λ r. ⌜ Written (plainPrint st s (now (names .entry)) p prints) (now (rest .entry)) (now (rest .exit)) r ⌝ }
 {
     if !prints {
         return 0;
     }
-    let place = (p.security - 1) as usize;
     let price = Price { n: p.n, d: p.d };
-    let full = is_full(st, s, p.market, prices::whole_part(price));
+    let whole = value / 100000000;
+    let full = is_full(st, s, p.market, whole);
     let shows = is_shown(st, s, p.market, p.volume);
-    write_text(rest, names, place, s, full, shows, p.volume, price)
+    let all = &names[..];
+    let from = (p.security - 1) as usize * 19;
+    let to = from + 19;
+    plainprint::write_text(
+        rest,
+        &all[from..to],
+        s,
+        full,
+        shows,
+        p.volume,
+        price,
+        &line[15..37],
+        value,
+        whole,
+    )
 }
 
 // ---- the trade
 
+// `line` is the line it was read from.
 pub fn take_plain(
     st: Settings,
     table: &mut [u64; 5632],
     names: &[u8; 9728],
     p: Plain,
+    line: &[u8],
     tape: &mut [u8],
 ) -> usize
-    requires { ⌜ Ready (row (now table) (p .security - 1)) p × (200 ≤ length (now tape)) ⌝ }
+    requires { ⌜ Ready (row (now table) (p .security - 1)) p × ReadFrom (now line) p × (200 ≤ length (now tape)) ⌝ }
     ensures { λ r. ⌜ (now (table .exit) ≡ withRow (now (table .entry)) (p .security - 1) (afterTrade st (row (now (table .entry)) (p .security - 1)) (p .market) (plainSide (p .volume) (p .n) (p .d)))) × Written (tradeText st (row (now (table .entry)) (p .security - 1)) (nameOf (now (names .entry)) (p .security - 1)) (p .market) (plainSide (p .volume) (p .n) (p .d))) (now (tape .entry)) (now (tape .exit)) r ⌝ }
 {
     let place = (p.security - 1) as usize;
@@ -190,5 +190,5 @@ pub fn take_plain(
     let prints = prints_plain(st, s, p.market, p.volume, value);
     let after = after_plain(s, p.market, value, prints);
     table::store(table, place, after);
-    write_plain(tape, names, st, s, p, prints)
+    write_plain(tape, names, st, s, p, line, value, prints)
 }

@@ -1,5 +1,5 @@
 use native.Mathlib.Omega.{arith}
-use Rattle.engine.proofs.PlainCalls.{plain-ready, plain-taken}
+use Rattle.engine.proofs.PlainCalls.{plain-ready, plain-read, plain-taken}
 use borrow.Author.Needs.{needs}
 use Rattle.engine.proofs.take_line.Statement.{statement}
 use Rattle.engine.proofs.take_line.Tie as tie
@@ -17,7 +17,7 @@ plain-at-requires : tie.Need-plain-at-requires
 plain-at-requires c κs = search needs
 
 take-plain-requires : tie.Need-take-plain-requires
-take-plain-requires c κs = let h = c .before .before .before .before .before .plain-at .ensures (omega arith) in (search plain-ready, search needs)
+take-plain-requires c κs = let h = c .before .before .before .before .before .plain-at .ensures (omega arith) in (search plain-ready, search plain-read, search needs)
 
 same-length-2 : tie.Need-same-length-2
 same-length-2 c = search needs

@@ -22,7 +22,7 @@ store-requires : tie.Need-store-requires
 store-requires c κs = search needs
 
 write-plain-requires : tie.Need-write-plain-requires
-write-plain-requires c κs = (search ready, search needs)
+write-plain-requires c κs = (search ready, search needs, search needs, search needs)
 
 same-length : tie.Need-same-length
 same-length c = search needs

@@ -1,5 +1,6 @@
+use Prim.Native.Nat.{_-_}
 use native.Mathlib.Omega.{arith}
-use Rattle.plaintrade.proofs.Trades.{plain-room, unprinted, printed}
+use Rattle.plaintrade.proofs.Trades.{slot-length, columned, plain-room, unprinted, printed}
 use borrow.Author.Needs.{needs}
 use Rattle.plaintrade.proofs.write_plain.Statement.{statement}
 use Rattle.plaintrade.proofs.write_plain.Tie as tie
@@ -7,20 +8,43 @@ use Rattle.plaintrade.proofs.write_plain.Tie as tie
 returns : tie.Need-returns
 returns c = search unprinted
 
-sub-place : tie.Need-sub-place
-sub-place c = search needs
-
-whole-part-requires : tie.Need-whole-part-requires
-whole-part-requires c κs = search needs
-
 is-full-requires : tie.Need-is-full-requires
 is-full-requires c κs = search needs
 
 is-shown-requires : tie.Need-is-shown-requires
 is-shown-requires c κs = search needs
 
+sub-from : tie.Need-sub-from
+sub-from c = search needs
+
+mul-from : tie.Need-mul-from
+mul-from c = search needs
+
+add-to : tie.Need-add-to
+add-to c = search needs
+
+sub-write-text : tie.Need-sub-write-text
+sub-write-text c = search needs
+
+part-write-text-start : tie.Need-part-write-text-start
+part-write-text-start c = search needs
+
+part-write-text-end : tie.Need-part-write-text-end
+part-write-text-end c = search needs
+
+sub-write-text-2 : tie.Need-sub-write-text-2
+sub-write-text-2 c = search needs
+
+part-write-text-start-2 : tie.Need-part-write-text-start-2
+part-write-text-start-2 c = search needs
+
+part-write-text-end-2 : tie.Need-part-write-text-end-2
+part-write-text-end-2 c = search needs
+
 write-text-requires : tie.Need-write-text-requires
-write-text-requires c κs = (search needs, search needs, search needs, search needs, plain-room (c .before .before .before .before .before .before .before .args .names .now) (c .before .before .before .before .before .before .before .args .s) (c .before .before .before .before .before .before .before .args .p) _ _ _ (search needs) (omega arith) (search needs))
+write-text-requires c κs =
+    let a = c .before .before .before .before .before .before .before .before .before .before .args in
+    (slot-length (a .names .now) (a .p .security - 1) (omega arith) (search needs), search needs, search columned, plain-room (a .names .now) (a .s) (a .p) _ _ _ (search needs) (omega arith) (search needs))
 
 same-length : tie.Need-same-length
 same-length c = search needs
@@ -33,10 +57,17 @@ write-plain-spec =
     tie.close
     (tie.spec
     returns
-    sub-place
-    whole-part-requires
     is-full-requires
     is-shown-requires
+    sub-from
+    mul-from
+    add-to
+    sub-write-text
+    part-write-text-start
+    part-write-text-end
+    sub-write-text-2
+    part-write-text-start-2
+    part-write-text-end-2
     write-text-requires
     same-length
     returns-2)
