@@ -1,38 +1,36 @@
 -- The call of a plain trade, put together. Assumes nothing.
-use Prim.Native.Nat.{ℕ, _+_, _-_, _*_, _≤_, _<_}
+use Prim.Native.Nat.{ℕ, _-_, _≤_, _<_}
 use native.Mathlib.Omega.{arith}
-use mathlib.Core.Path.{_≡_, refl, sym, ap, _∙_, subst}
-use mathlib.Core.Bool.{Bool, true, false, _&&_, _||_, not}
-use mathlib.Core.List.{List, []}
-use lib.Dec.{eqb, ltb}
+use mathlib.Core.Path.{_≡_, refl, sym, ap, _∙_}
+use mathlib.Core.Bool.{Bool, true, false, _&&_, not}
+use mathlib.Core.List.{List}
+use lib.Dec.{eqb}
 use lib.ListN.{length}
 use borrow.Author.Tests.{eqb-true, le-ltb, ne-eqb, not-false}
 use Rattle.text.specs.Put.{put, Written}
-use Rattle.text.specs.Pick.{pick, opt, among}
+use Rattle.text.specs.Pick.{pick, among}
 use Rattle.text.proofs.Texts.{and-left}
+use Rattle.text.proofs.Booleans.{and-false}
 use Rattle.rules.specs.Columns.{column}
 use Rattle.rules.specs.Conditions.{onNetwork}
 use Rattle.rules.specs.Day.{isEntered}
-use Rattle.rules.specs.Line.{isShaped, isKind, isFormed, isRanged, lineOf, ofKind, tradeFormed, tradeRanged, tradeOf, nameColumns}
+use Rattle.rules.specs.Line.{isShaped, isKind, isFormed, isRanged, lineOf, ofKind, tradeFormed, tradeRanged, tradeOf}
 use Rattle.rules.specs.Trade.{afterTrade}
 use Rattle.rules.specs.declared.Line.the-variants.{Traded}
 use Rattle.rules.specs.declared.Parsed.{Parsed}
-use Rattle.rules.specs.declared.Trade.{Trade}
 use Rattle.rules.specs.declared.Settings.{Settings}
 use Rattle.rules.specs.declared.Security.{Security}
-use Rattle.rules.specs.declared.Refusal.the-variants.{Room}
 use Rattle.table.specs.Rows.{row, withRow, nameOf}
 use Rattle.plainline.specs.declared.Plain.{Plain}
 use Rattle.plainline.specs.Plain.{noLetters, plainSide, plainTrade, PlainLine}
 use Rattle.plaintrade.specs.Plain.{tradeText, Ready, ReadFrom}
 use Rattle.planner.specs.declared.TradePlan.{TradePlan}
 use Rattle.planner.specs.declared.Plan.{Plan}
-use Rattle.planner.specs.declared.Plan.the-variants.{Stop, Print}
+use Rattle.planner.specs.declared.Plan.the-variants.{Print}
 use Rattle.planner.specs.Plan.{printPlan, unlessStopped, tradePlan, linePlan, readPlan, planOf, SoundTrade}
 use Rattle.planner.proofs.Ranged.{sound-trade}
 use Rattle.planprint.proofs.Sound.{has-unit}
 use Rattle.engine.specs.declared.Outcome.the-variants.{Accepted}
-use Rattle.engine.specs.declared.Answer.{Answer}
 use Rattle.engine.specs.Calls.{PlainCall}
 use Rattle.planprint.specs.Print.{printedName, printText, textOf, fittedOf, printOf}
 use Rattle.engine.specs.Taken.{asked, outcomeOf, Taken}
@@ -60,10 +58,6 @@ unfolding ofKind pick
 of-trade line e = ap (λ (k : ℕ). ofKind k line) e
 
 -- ---- the plan
-
-pub and-shut : (b : Bool) → (b && false) ≡ false
-and-shut true = refl
-and-shut false = refl
 
 module _ (st : Settings) (table names line : List ℕ) (p : Plain) (h : PlainCall st table line p) where
   abbrev s : Security
@@ -93,7 +87,7 @@ module _ (st : Settings) (table names line : List ℕ) (p : Plain) (h : PlainCal
   unstopped = rw (h .entered)
 
   dated : (not (eqb (column 1 line) 68) && eqb (st .date) 0) ≡ false
-  dated = rw (ne-eqb (st .date) 0 (h .dated)) (and-shut (not (eqb (column 1 line) 68)))
+  dated = rw (ne-eqb (st .date) 0 (h .dated)) (and-false (not (eqb (column 1 line) 68)))
 
   plan-is : planOf st table names line ≡ Print t
   unfolding planOf readPlan linePlan plainTrade pick

@@ -1,11 +1,11 @@
 -- One call, put together. Assumes nothing.
 use Prim.Native.Nat.{ℕ, _≤_}
 use native.Mathlib.Omega.{arith}
-use mathlib.Core.Path.{_≡_, sym, ap, _∙_}
+use mathlib.Core.Path.{_≡_, ap, _∙_}
 use mathlib.Core.List.{List}
-use lib.ListN.{length, take, drop}
-use lib.Seq.{take-at}
+use lib.ListN.{length, take}
 use Rattle.text.specs.Put.{put, Written}
+use Rattle.text.proofs.Parts.{front-length, front}
 use Rattle.rules.specs.declared.Settings.{Settings}
 use Rattle.planner.specs.declared.Plan.{Plan}
 use Rattle.planner.specs.Plan.{planOf}
@@ -14,14 +14,6 @@ use Rattle.planprint.specs.Print.{printedName, textOf, fittedOf, printOf}
 use Rattle.planstate.specs.After.{settingsAfter, tableAfter, namesAfter}
 use Rattle.planprint.proofs.Room.{plan-print}
 use Rattle.engine.specs.Taken.{asked, outcomeOf, Taken}
-
--- what a writer left at the front
-pub front : {t b a : List ℕ} {n : ℕ} → Written t b a n → take n a ≡ t
-unfolding put
-front {t} {b} {a} {n} w = ap (take n) (w .tape) ∙ take-at t (drop (length t) b) n (sym (w .count-is))
-
-pub front-length : {t b a : List ℕ} {n : ℕ} → Written t b a n → n ≡ length (take n a)
-front-length {t} {b} {a} {n} w = w .count-is ∙ ap length (sym (front w))
 
 -- no longer than the part it was lent
 pub front-short : {t b a : List ℕ} {n : ℕ} (m : ℕ) → Written t b a n → length b ≡ m → length (take n a) ≤ m

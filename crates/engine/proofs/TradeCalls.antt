@@ -1,21 +1,22 @@
 -- The call of a T line, put together. Assumes nothing.
-use Prim.Native.Nat.{ℕ, _+_, _-_, _*_, _^_, _≤_, _<_}
+use Prim.Native.Nat.{ℕ, _-_, _^_, _≤_, _<_}
 use native.Mathlib.Omega.{arith}
 use mathlib.Core.Path.{_≡_, refl, sym, ap, _∙_}
 use mathlib.Core.Bool.{Bool, true, false, _&&_, not}
-use mathlib.Core.List.{List, []}
-use lib.Dec.{eqb, ltb}
+use mathlib.Core.List.{List}
+use lib.Dec.{eqb}
 use lib.ListN.{length, getD, take}
 use borrow.Author.Tests.{le-ltb, ne-eqb, eqb-true, not-true, not-false}
 use Rattle.text.proofs.Texts.{and-left}
 use Rattle.text.specs.Put.{put, Written}
-use Rattle.text.specs.Pick.{pick, opt, among}
+use Rattle.text.specs.Pick.{pick, among}
+use Rattle.text.proofs.Parts.{opt-most, front}
+use Rattle.text.proofs.Booleans.{and-false}
 use Rattle.rules.specs.Columns.{column}
 use Rattle.rules.specs.Conditions.{onNetwork}
 use Rattle.rules.specs.Names.{nameText}
-use Rattle.rules.specs.Side.{sideText}
 use Rattle.rules.specs.Day.{isEntered}
-use Rattle.rules.specs.Line.{isShaped, isKind, isFormed, isRanged, lineOf, ofKind, tradeFormed, tradeRanged, tradeOf}
+use Rattle.rules.specs.Line.{isShaped, isKind, isFormed, isRanged, lineOf, tradeFormed, tradeRanged, tradeOf}
 use Rattle.rules.specs.declared.Line.the-variants.{Traded}
 use Rattle.rules.specs.declared.Parsed.{Parsed}
 use Rattle.rules.specs.declared.Trade.{Trade}
@@ -33,8 +34,7 @@ use Rattle.planner.specs.declared.Plan.the-variants.{Stop, Print}
 use Rattle.planner.specs.Plan.{printPlan, unlessStopped, tradePlan, linePlan, readPlan, planOf, SoundTrade}
 use Rattle.planner.proofs.Ranged.{sound-trade}
 use Rattle.planprint.proofs.Sound.{has-unit}
-use Rattle.engine.proofs.Steps.{front}
-use Rattle.engine.proofs.PlainCalls.{of-trade, and-shut}
+use Rattle.engine.proofs.PlainCalls.{of-trade}
 use Rattle.engine.specs.declared.Outcome.the-variants.{Accepted, Refused}
 use Rattle.engine.specs.declared.Answer.{Answer}
 use Rattle.engine.specs.Calls.{TradeCall, answered}
@@ -74,7 +74,7 @@ module _ (st : Settings) (table names line : List ℕ) (room : ℕ) (h : TradeCa
   a-kind = ap isKind (h .kind)
 
   dated : (not (eqb (column 1 line) 68) && eqb (st .date) 0) ≡ false
-  dated = rw (ne-eqb (st .date) 0 (h .dated)) (and-shut (not (eqb (column 1 line) 68)))
+  dated = rw (ne-eqb (st .date) 0 (h .dated)) (and-false (not (eqb (column 1 line) 68)))
 
   read-is : planOf st table names line ≡ readPlan st table names line
   unfolding planOf pick
@@ -249,17 +249,12 @@ pub sound-plan : (st : Settings) (s : Security) (t : Trade) (q : Bool) (p : Trad
 unfolding printPlan
 sound-plan st s t q p h told entered e = rw e (record { place-is = omega (arith, h .low, h .high); unit-is = has-unit s (ap not (sym told) ∙ entered); price-is = h .price .decimals; previous-is = h .previous })
 
-opt-room : (b : Bool) (t : List ℕ) (m : ℕ) → length t ≤ m → length (opt b t) ≤ m
-unfolding opt
-opt-room true t m h = h
-opt-room false t m h = omega arith
-
 -- no longer than the tape that is lent
 pub print-room : (name : List ℕ) (t : TradePlan) (m : ℕ) → SoundPrint t → t .side .volume < 10 ^ 20 → t .side .price .n < 10 ^ 20 → t .side .days < 10 ^ 20 → t .side .previous .n < 10 ^ 20 → length name ≤ 22 → 200 ≤ m → length (printText name t) ≤ m
 unfolding printText
 print-room name t m h v n d p l k =
     let x : Short (t .side) = record { volume-is = v; price-is = n; decimals-are = h .price-is; days-are = d; previous-is = p; previous-decimals = h .previous-is } in
-    opt-room (t .prints) _ m (omega (arith, side-short (t .side) x name (t .network) (t .unit) (t .full) (t .shows), l, k))
+    opt-most (t .prints) _ m (omega (arith, side-short (t .side) x name (t .network) (t .unit) (t .full) (t .shows), l, k))
 
 pub named-print : (u b a tape tape′ : List ℕ) (n k : ℕ) (t : TradePlan) → Written u b a n → Written (printText (take n a) t) tape tape′ k → Written (printText u t) tape tape′ k
 named-print u b a tape tape′ n k t v w = rw (front v) at w

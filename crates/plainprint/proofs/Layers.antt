@@ -8,12 +8,12 @@ use lib.ListN.{length, take, drop, set, length-append, length-take, length-drop,
 use lib.Seq.{take-take, take-at, take-append-add, take-suc-set, length-take-le, take-add}
 use Rattle.text.specs.Put.{Written}
 use Rattle.text.proofs.Writing.{length-put}
-use Rattle.symbol.proofs.Text.{cut-out}
+use Rattle.text.proofs.Parts as parts
 use Rattle.plainprint.specs.Laid.{Laid}
 
 pub laid-written : {t b a : List ℕ} {n : ℕ} → Written t b a n → Laid t b a n
 laid-written {t} {b} {a} {n} w = record {
-  front = rw (← w .count-is) (cut-out t b a n w);
+  front = rw (← w .count-is) (parts.front w);
   count-is = w .count-is;
   size = ap length (w .tape) ∙ length-put t b (rw (← w .count-is) (w .within));
   within = w .within;

@@ -18,7 +18,8 @@ use Rattle.rules.specs.Columns.{word}
 use Rattle.rules.specs.Names.{partText, nameText}
 use Rattle.rules.specs.Day.{showsTemporary}
 use Rattle.words.specs.Word.{WordOf}
-use Rattle.words.proofs.Fields.{word-blank, word-byte, passed, at-blank, at-end}
+use Rattle.rules.proofs.Fields.{word-blank, word-byte}
+use Rattle.words.proofs.Fields.{passed, at-blank, at-end}
 use Rattle.plainprint.specs.Laid.{Laid}
 use Rattle.plainprint.specs.Print.{dotText}
 use Rattle.plainprint.proofs.Layers.{laid-written, laid-nothing, laid-named, laid-front, laid-then}

@@ -4,7 +4,7 @@ use native.Mathlib.Nat.{pow-le-pow-right}
 use native.Mathlib.Omega.{arith}
 use mathlib.Core.Path.{_≡_, refl, sym, ap, _∙_}
 use mathlib.Core.Bool.{Bool, true, false, _&&_, _||_, not}
-use mathlib.Core.List.{List, [], _∷_, _++_, append-nil}
+use mathlib.Core.List.{List, append-nil}
 use lib.Dec.{eqb}
 use borrow.Author.Tests.{not-true, not-false}
 use lib.ListN.{length, take, drop, length-take, length-drop}
@@ -12,6 +12,7 @@ use lib.Seq.{take-take}
 use Rattle.text.specs.Pick.{pick, opt}
 use Rattle.text.specs.Put.{Written}
 use Rattle.text.proofs.Writing.{written-nothing}
+use Rattle.text.proofs.Booleans.{or-false}
 use Rattle.rules.specs.declared.Mode.{Mode}
 use Rattle.rules.specs.declared.Mode.the-variants.{Normal, Dvd, Rpo, Mpv}
 use Rattle.rules.specs.declared.Price.{Price}
@@ -24,8 +25,7 @@ use Rattle.rules.specs.Side.{headText, tailText, sideText}
 use Rattle.rules.specs.Day.{showsTemporary}
 use Rattle.rules.specs.Conditions.{hasRule, afterName, afterPrice, atEnd}
 use Rattle.rules.specs.Qualifying.{forNeither, forRangeOnly, forRange, forLast}
-use Rattle.rules.specs.Trade.{six, atLevel, firstQualifying, newHigh, newLow, newRange, unlikePrinted, farFromPrinted, isNormal, fullAt, fullPrice, showsVolume, printsAnyhow, printsTrade, tradeFull, tradeShows, highAfter, lowAfter, lastAfter, counted, afterTrade}
-use Rattle.prices.specs.Sound.{Sound}
+use Rattle.rules.specs.Trade.{six, firstQualifying, newHigh, newLow, newRange, unlikePrinted, farFromPrinted, fullPrice, showsVolume, printsAnyhow, printsTrade, tradeFull, tradeShows, highAfter, lowAfter, lastAfter, counted, afterTrade}
 use Rattle.trade.proofs.Short.{Short, side-short}
 use Rattle.symbol.proofs.Text.{name-short, name-most}
 use Rattle.table.specs.Rows.{row, withRow, nameOf}
@@ -91,10 +91,6 @@ module _ (names : List ℕ) (i : ℕ) where
 
 -- ---- what `rules` says of a side without letters
 
-or-none : (a : Bool) → (a || false) ≡ a
-or-none true = refl
-or-none false = refl
-
 or-or : (a b c : Bool) → ((a || b) || c) ≡ (a || (b || c))
 or-or true b c = refl
 or-or false b c = refl
@@ -112,7 +108,7 @@ module _ (st : Settings) (s : Security) (market volume n d : ℕ) where
 
   anyhow-is : printsAnyhow st s market x ≡ anyhow st s market volume
   unfolding printsAnyhow anyhow plainSide noLetters hasRule
-  anyhow-is = rw (or-none (eqb (s .unit) 1))
+  anyhow-is = rw (or-false (eqb (s .unit) 1))
 
   rpo-is : (newRange s x || ((forLast (x .letters) && unlikePrinted s (units (x .price))) || printsAnyhow st s market x)) ≡ plainRpo st s market volume (units price)
   unfolding newRange plainRpo plainSide noLetters forRange forLast forNeither forRangeOnly
@@ -133,7 +129,7 @@ module _ (st : Settings) (s : Security) (market volume n d : ℕ) where
 
   pub shows-is : tradeShows st s market x ≡ plainShows st s market volume
   unfolding tradeShows plainShows showsVolume plainSide noLetters firstQualifying forLast forNeither forRangeOnly hasRule
-  shows-is = rw (or-none (six s market))
+  shows-is = rw (or-false (six s market))
 
   pub after-is : afterTrade st s market x ≡ plainAfter s market (units price) (printsTrade st s market x)
   unfolding afterTrade plainAfter highAfter lowAfter lastAfter plainSide noLetters forRange forLast forNeither forRangeOnly pick

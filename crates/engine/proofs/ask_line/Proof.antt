@@ -1,6 +1,7 @@
 use Rattle.planprint.proofs.Sound.{sound-asked}
-use Rattle.engine.proofs.Steps.{front-length, front-short, asked-for}
+use Rattle.engine.proofs.Steps.{front-short, asked-for}
 use borrow.Author.Needs.{needs}
+use Rattle.text.proofs.Parts.{front-length}
 use Rattle.engine.proofs.ask_line.Statement.{statement}
 use Rattle.engine.proofs.ask_line.Tie as tie
 

@@ -1,7 +1,8 @@
 use Rattle.planprint.proofs.Sound.{sound-asked}
-use Rattle.engine.proofs.Steps.{front-length, front-short, taken}
+use Rattle.engine.proofs.Steps.{front-short, taken}
 use Rattle.planprint.proofs.Room.{fitted-sound, fitted-room}
 use borrow.Author.Needs.{needs}
+use Rattle.text.proofs.Parts.{front-length}
 use Rattle.engine.proofs.take_other.Statement.{statement}
 use Rattle.engine.proofs.take_other.Tie as tie
 

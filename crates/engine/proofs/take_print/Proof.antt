@@ -1,7 +1,8 @@
 use native.Mathlib.Omega.{arith}
-use Rattle.engine.proofs.Steps.{front-length, front-short}
+use Rattle.engine.proofs.Steps.{front-short}
 use Rattle.engine.proofs.TradeCalls.{print-room, named-print}
 use borrow.Author.Needs.{needs}
+use Rattle.text.proofs.Parts.{front-length}
 use Rattle.engine.proofs.take_print.Statement.{statement}
 use Rattle.engine.proofs.take_print.Tie as tie
 

@@ -1,5 +1,4 @@
-use Rattle.engine.proofs.Steps.{front-length}
-use Rattle.text.proofs.Parts.{counted}
+use Rattle.text.proofs.Parts.{counted, front-length}
 use borrow.Author.Needs.{needs}
 use Rattle.vectors.proofs.show_facts.Statement.{statement}
 use Rattle.vectors.proofs.show_facts.Tie as tie
