@@ -3,11 +3,10 @@ use Prim.Native.Nat.{ℕ, zero, suc, _-_, _≤_, _<_}
 use native.Mathlib.Omega.{arith}
 use mathlib.Core.Path.{_≡_, refl, sym}
 use mathlib.Core.Bool.{Bool, true, false, not}
-use mathlib.Core.List.{List, [], _∷_}
-use lib.ListN.{length, drop, length-take}
+use mathlib.Core.List.{List}
+use lib.ListN.{drop, length-take}
 use lib.Seq.{take-take}
 use Rattle.text.specs.Pick.{pick, among}
-use Rattle.text.specs.Reading.{Read, found, before}
 use Rattle.rules.specs.Columns.{columns, isNumber, valueOf}
 use Rattle.rules.specs.Names.{rootField}
 use Rattle.rules.specs.Line.{volumeIn, alike, nameColumns, isUnit}
@@ -15,11 +14,6 @@ use Rattle.rules.specs.declared.Number.{Number}
 use Rattle.rules.specs.declared.Number.the-variants.{Blank, Bad, Is}
 use Rattle.widths.proofs.Below.{number-below}
 use Rattle.named.proofs.Root.{false-true}
-
-next-short : (t : Bool) (c : ℕ) (r : Read (List ℕ)) (s : List ℕ) → length (r .got) ≤ length s → length ((pick t (before c r) (found [] (c ∷ s))) .got) ≤ suc (length s)
-unfolding pick
-next-short true c r s h = omega (h, arith)
-next-short false c r s h = omega arith
 
 pub volume-below : (side : List ℕ) → valueOf (volumeIn side) < 1000000000
 volume-below side = number-below 9 (columns 1 9 side) (omega (arith, length-take 9 side))

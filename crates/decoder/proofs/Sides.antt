@@ -177,10 +177,6 @@ unsaid-none : same (shownText unsaid) [] ≡ true
 unfolding shownText same
 unsaid-none = refl
 
--- a volume's own text is the text of what is shown
-volume-of : (x : Shown) (v : ℕ) (b : Bool) → sharesOf x ≡ v → pick b (some (sharesOf x)) none ≡ pick b (some v) none
-volume-of x v b e = rw e
-
 -- THE VOLUME IS THE ONE SHOWN
 pub volume-by : (mode : Mode) (shows : Bool) (network unit v : ℕ) → volumeBy mode (pick (isNormal mode || shows) (shownOf network unit v) unsaid) ≡ pick (isNormal mode || ((isNormal mode || shows) && not (same (volumeText network unit v) []))) (some v) none
 unfolding pick volumeBy sharesOf

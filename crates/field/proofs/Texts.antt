@@ -9,11 +9,11 @@ use lib.Seq.{drop-cons}
 use lib.Dec.{eqb}
 use borrow.Author.Tests.{eq-eqb, ne-eqb, not-true, not-false}
 use Rattle.text.specs.Pick.{pick, all, among}
-use Rattle.text.specs.Reading.{span, found, before}
+use Rattle.text.specs.Reading.{span, found}
 use Rattle.text.proofs.Booleans.{and-false}
 use Rattle.text.proofs.Parts.{rest-is}
 use Rattle.rules.specs.Tape.{isLetter}
-use Rattle.rules.specs.Columns.{isBlank, notBlank, blank, word, filled, isRoot}
+use Rattle.rules.specs.Columns.{isBlank, blank, word, filled, isRoot}
 use Rattle.rules.proofs.Fields.{word-blank, word-byte}
 
 -- ---- every byte passes. Each is looked at, so that many are at once: `others` is 0 as long as none was found that does not pass
@@ -86,14 +86,6 @@ module _ (c : ℕ) (s : List ℕ) (i : ℕ) (x : Bool) (e : among c (drop i s) �
 
 -- ---- the bytes at the front that pass
 
-span-no : (p : ℕ → Bool) (c : ℕ) (s : List ℕ) → p c ≡ false → span p (c ∷ s) ≡ found [] (c ∷ s)
-unfolding span pick
-span-no p c s h = rw h
-
-span-yes : (p : ℕ → Bool) (c : ℕ) (s : List ℕ) → p c ≡ true → span p (c ∷ s) ≡ before c (span p s)
-unfolding span pick
-span-yes p c s h = rw h
-
 -- x is what follows them
 
 module _ (p : ℕ → Bool) (s : List ℕ) (i : ℕ) (x : List ℕ) (e : (span p (drop i s)) .rest ≡ x) where
@@ -118,10 +110,6 @@ unfolding isRoot
 root-last s k b r e h f q = rw (← e, not-false b h) (filled-by isLetter s k r f q)
 
 -- ---- the word: the text up to the first blank
-
-not-blank : (c : ℕ) (b : Bool) → eqb c 32 ≡ b → notBlank c ≡ not b
-unfolding isBlank
-not-blank c b h = rw h
 
 pub word-stop : (s : List ℕ) (i : ℕ) → i < length s → getD s i 0 ≡ 32 → word (drop i s) ≡ []
 word-stop s i h q = rw (drop-cons s i 0 h) (word-blank _ _ q)

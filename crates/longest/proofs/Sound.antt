@@ -9,7 +9,6 @@ use lib.Dec.{eqb}
 use borrow.Author.Tests.{eqb-true}
 use mathlib.Core.Option.{some}
 use lib.ListN.{length, take, drop}
-use lib.Seq.{drop-drop}
 use Rattle.text.specs.Bytes.{bytes}
 use Rattle.text.specs.Pick.{pick, opt, among}
 use Rattle.rules.specs.Price.{priceText, units}
@@ -128,9 +127,6 @@ unfolding endAt endPair
 end-told s n m y e o = end-cases s n m (y .letters .g) (starts (bytes ">>") (drop n s)) refl e o
 
 module _ (opening s : List ℕ) (six : length opening ≡ 6) (starts-there : starts opening s ≡ true) (h : NameRead) (k : HeadTold false (drop 6 s) h) (x : SideRead) (e : sideAt Alone (h .letters) (h .a) (h .b) (drop (6 + h .used) s) ≡ Sided x) where
-  part-is : drop (6 + h .used) s ≡ drop (h .used) (drop 6 s)
-  part-is = sym (drop-drop (h .used) 6 s)
-
   front-of : take (6 + h .used + x .taken .used) s ≡ opening ++ ((take (h .length) (drop 6 s) ++ afterName (h .letters)) ++ take (x .taken .used) (drop (6 + h .used) s))
   front-of =
       two-fronts s (6 + h .used) (x .taken .used)

@@ -27,11 +27,6 @@ unfolding all pick
 next p c s k true e h = rw (e) h
 next p c s k false e h = refl
 
-pick-most : (b : Bool) (n k : ℕ) → n ≤ k → pick b (suc n) 0 ≤ suc k
-unfolding pick
-pick-most true n k h = omega (h, arith)
-pick-most false n k h = omega arith
-
 pub count-passes : (p : ℕ → Bool) (k : ℕ) (s : List ℕ) → all p (take (countOf p k s) s) ≡ true
 unfolding countOf all
 count-passes p zero s = refl

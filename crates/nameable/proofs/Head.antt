@@ -165,11 +165,6 @@ unfolding pick
 counted true c s r n h = refl
 counted false c s r n h = ap suc h
 
-count-next : (b : Bool) (n k : ℕ) → n ≤ k → pick b 0 (suc n) ≤ suc k
-unfolding pick
-count-next true n k h = omega arith
-count-next false n k h = omega (h, arith)
-
 count-cut : (s : List ℕ) → nameCount s ≡ length ((cut s) .got)
 unfolding nameCount cut
 count-cut [] = refl

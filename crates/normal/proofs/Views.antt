@@ -46,10 +46,6 @@ use Rattle.normal.proofs.Sides.{showable-side, same-conditions, same-si
 
 -- ---- nothing stopped it
 
-isNone : Option Refusal → Bool
-isNone none = true
-isNone (some r) = false
-
 -- what an accepted line owes
 pub record Accepted (day : Day) (line : List ℕ) (room : ℕ) : Type 0 where
   pub shaped : isShaped line ≡ true

@@ -1,16 +1,12 @@
 -- Laws of what an answer tells, in the form of the code's needs. Assumes nothing.
-use Prim.Native.Nat.{ℕ, _+_, _-_, _≤_, _<_}
-use native.Mathlib.Omega.{arith}
-use mathlib.Core.Path.{_≡_, refl, sym, ap, _∙_}
+use Prim.Native.Nat.{ℕ, _-_}
+use mathlib.Core.Path.{_≡_}
 use Rattle.rules.specs.declared.Refusal.{Refusal}
 use Rattle.reader.specs.declared.PrintRead.{PrintRead}
 use Rattle.reader.specs.declared.CorrectionRead.{CorrectionRead}
 use Rattle.reader.specs.declared.ReadAnswer.{ReadAnswer}
 use Rattle.reader.specs.declared.ReadAnswer.the-variants.{Announcement, Trade, Cancel, Error, Correction, Refused}
 use Rattle.reader.specs.Told.{lengthOf, nameFrom, nameLength}
-
-pub none-between : (from to : ℕ) → to ≤ from → 0 ≡ to - from
-none-between from to h = omega arith
 
 module _ (r : ReadAnswer) where
   pub length-announcement : (n : ℕ) → r ≡ Announcement n → n ≡ lengthOf r

@@ -1,9 +1,9 @@
 -- What an accepted line owes, from the refusals that did not stop it. Assumes nothing.
 use Prim.Native.Nat.{ℕ}
-use mathlib.Core.Path.{_≡_, ap}
-use mathlib.Core.Bool.{Bool, true, false, _&&_, not}
+use mathlib.Core.Path.{_≡_}
+use mathlib.Core.Bool.{true, false, _&&_, not}
 use mathlib.Core.List.{List}
-use mathlib.Core.Option.{Option, none, some}
+use mathlib.Core.Option.{Option, none}
 use lib.Dec.{ltb, eqb}
 use lib.ListN.{length}
 use borrow.Author.Tests.{not-false}
@@ -19,19 +19,9 @@ use Rattle.rules.specs.declared.Line.the-variants.{Dated, Listed, Moded, Levele
 use Rattle.rules.specs.declared.Refusal.{Refusal}
 use Rattle.rules.specs.declared.Refusal.the-variants.{Shape, Kind, NoDate, Form, Value, NotEntered, InUse, Name, SameName, Conditions, Unmatched, Room}
 use Rattle.rules.proofs.Days.{passed}
-use Rattle.named.proofs.Root.{false-true}
 use Rattle.wholeday.specs.Lawful.{LawfulTrade, LawfulLine}
 use Rattle.wholeday.specs.Accepted.{AcceptedTrade, Accepted}
 use Rattle.wholeday.proofs.Lines.{lawful-line}
-
--- nothing stopped it
-isNone : Option Refusal → Bool
-isNone none = true
-isNone (some r) = false
-
-pub some-none : (r : Refusal) → some r ≡ none → ⊥
-unfolding isNone
-some-none r h = false-true (ap isNone h)
 
 -- ---- the refusals by the state
 

@@ -214,9 +214,6 @@ module _ (day e : Day) (k : Invariant e) (l : Later day e) (t : Trade) (f : Acce
 
 -- ---- a cancel, an error
 
-front-some : (c : ℕ) (t u : List ℕ) → 0 < length ((c ∷ t) ++ u)
-front-some c t u = omega arith
-
 module _ (day e : Day) (k : Invariant e) (l : Later day e) (t : Trade) (f : AcceptedTrade day t) where
   abbrev sc : Security
   sc = securityAt day (t .security)
