@@ -1,6 +1,7 @@
 // Condition letters in a field of four columns (document 01, "Day lines", "Conditions"): formed, as a set, lawful together.
 use rules::Letters;
 ghost use mathlib.Core.Path.{_≡_};
+ghost use mathlib.Core.List.{[], _∷_};
 ghost use Prim.Native.Nat.{_≤_, _<_};
 ghost use lib.ListN.{length, drop};
 ghost use Rattle.text.specs.Pick.{among};
@@ -13,7 +14,21 @@ ghost use Rattle.rules.specs.Conditions.{isCondition, lettersFormed, lettersIn,
 fn is_condition(c: u8) -> bool
     ensures { λ r. ⌜ r ≡ isCondition c ⌝ }
 {
-    field::is_among(c, b"OSLNMCKBTRJG")
+    match c {
+        b'O' => true,
+        b'S' => true,
+        b'L' => true,
+        b'N' => true,
+        b'M' => true,
+        b'C' => true,
+        b'K' => true,
+        b'B' => true,
+        b'T' => true,
+        b'R' => true,
+        b'J' => true,
+        b'G' => true,
+        _ => false,
+    }
 }
 
 // How many condition letters stand at the field's start.
@@ -56,9 +71,30 @@ fn has_letter(field: &[u8], c: u8) -> bool
     false
 }
 
-// The letters that stand in a field; most fields are blank.
+// The letters of a field that holds no more than this one.
+fn only_letter(x: u8) -> Letters
+    requires { ⌜ (x ≡ 32 → ⊥) ⌝ }
+    ensures { λ r. ⌜ r ≡ lettersIn (x ∷ []) ⌝ }
+{
+    Letters {
+        o: b'O' == x,
+        s: b'S' == x,
+        l: b'L' == x,
+        n: b'N' == x,
+        m: b'M' == x,
+        c: b'C' == x,
+        k: b'K' == x,
+        b: b'B' == x,
+        t: b'T' == x,
+        r: b'R' == x,
+        j: b'J' == x,
+        g: b'G' == x,
+    }
+}
+
+// The letters that stand in a field; most fields are blank, or hold one.
 pub fn letters_in(field: &[u8]) -> Letters
-    requires { ⌜ 0 < length (now field) ⌝ }
+    requires { ⌜ 1 < length (now field) ⌝ }
     ensures { λ r. ⌜ r ≡ lettersIn (now (field .entry)) ⌝ }
 {
     if field[0] == b' ' {
@@ -76,6 +112,9 @@ pub fn letters_in(field: &[u8]) -> Letters
             j: false,
             g: false,
         };
+    }
+    if field[1] == b' ' {
+        return only_letter(field[0]);
     }
     Letters {
         o: has_letter(field, b'O'),
@@ -149,10 +188,13 @@ fn has_at_most_one(group: &[u8], field: &[u8]) -> bool
 
 // Not repeated; at most one of O S L; one of N M C K R.
 pub fn lawful_letters(field: &[u8]) -> bool
-    requires { ⌜ 0 < length (now field) ⌝ }
+    requires { ⌜ 1 < length (now field) ⌝ }
     ensures { λ r. ⌜ r ≡ lawfulLetters (now (field .entry)) ⌝ }
 {
     if field[0] == b' ' {
+        return true;
+    }
+    if field[1] == b' ' {
         return true;
     }
     if !is_unrepeated(field) {

@@ -1,4 +1,4 @@
-use Rattle.lettering.proofs.Letters.{no-letters, each-letter}
+use Rattle.lettering.proofs.Letters.{no-letters, only-letters, each-letter}
 use borrow.Author.Needs.{needs}
 use Rattle.lettering.proofs.letters_in.Statement.{statement}
 use Rattle.lettering.proofs.letters_in.Tie as tie
@@ -8,6 +8,18 @@ shared-slice-read-if1 c = search needs
 
 returns : tie.Need-returns
 returns c = search no-letters
+
+shared-slice-read-if2 : tie.Need-shared-slice-read-if2
+shared-slice-read-if2 c = search needs
+
+shared-slice-read-only-letter : tie.Need-shared-slice-read-only-letter
+shared-slice-read-only-letter c = search needs
+
+only-letter-requires : tie.Need-only-letter-requires
+only-letter-requires c κs = search needs
+
+returns-2 : tie.Need-returns-2
+returns-2 c = search only-letters
 
 has-letter-requires : tie.Need-has-letter-requires
 has-letter-requires c κs = search needs
@@ -45,8 +57,8 @@ has-letter-requires-11 c κs = search needs
 has-letter-requires-12 : tie.Need-has-letter-requires-12
 has-letter-requires-12 c κs = search needs
 
-returns-2 : tie.Need-returns-2
-returns-2 c = search each-letter depth 40 fits 10000
+returns-3 : tie.Need-returns-3
+returns-3 c = search each-letter depth 40 fits 10000
 
 pub letters-in-spec : {M : Type 1} → statement M
 letters-in-spec =
@@ -54,6 +66,10 @@ letters-in-spec =
     (tie.spec
     shared-slice-read-if1
     returns
+    shared-slice-read-if2
+    shared-slice-read-only-letter
+    only-letter-requires
+    returns-2
     has-letter-requires
     has-letter-requires-2
     has-letter-requires-3
@@ -66,4 +82,4 @@ letters-in-spec =
     has-letter-requires-10
     has-letter-requires-11
     has-letter-requires-12
-    returns-2)
+    returns-3)
