@@ -60,7 +60,7 @@ pub fn read_trade(line: &[u8]) -> TradeRead
     let number = numbers::read_number(&line[1..5]);
     let market = line[5];
     let read = dayside::read_side(&line[6..52]);
-    let blank = field::is_blank_part(&line[52..100]);
+    let blank = field::is_blank_rest(&line[52..100]);
     let security = numbers::value_of(number);
     let side = read.side;
     let trade = Trade {

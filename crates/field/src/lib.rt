@@ -26,6 +26,20 @@ pub fn is_blank_part(part: &[u8]) -> bool
     marks == 0
 }
 
+// 48 columns, sixteen at once.
+pub fn is_blank_rest(part: &[u8]) -> bool
+    requires { ⌜ length (now part) ≡ 48 ⌝ }
+    ensures { λ r. ⌜ r ≡ blank (now (part .entry)) ⌝ }
+{
+    if !is_blank_part(&part[0..16]) {
+        return false;
+    }
+    if !is_blank_part(&part[16..32]) {
+        return false;
+    }
+    is_blank_part(&part[32..48])
+}
+
 fn is_printable(c: u8) -> bool
     ensures { λ r. ⌜ r ≡ isPrintable c ⌝ }
 {

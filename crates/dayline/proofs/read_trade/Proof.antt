@@ -30,17 +30,17 @@ part-read-side-end c = search needs
 read-side-requires : tie.Need-read-side-requires
 read-side-requires c κs = search needs
 
-sub-is-blank-part : tie.Need-sub-is-blank-part
-sub-is-blank-part c = search needs
+sub-is-blank-rest : tie.Need-sub-is-blank-rest
+sub-is-blank-rest c = search needs
 
-part-is-blank-part-start : tie.Need-part-is-blank-part-start
-part-is-blank-part-start c = search needs
+part-is-blank-rest-start : tie.Need-part-is-blank-rest-start
+part-is-blank-rest-start c = search needs
 
-part-is-blank-part-end : tie.Need-part-is-blank-part-end
-part-is-blank-part-end c = search needs
+part-is-blank-rest-end : tie.Need-part-is-blank-rest-end
+part-is-blank-rest-end c = search needs
 
-is-blank-part-requires : tie.Need-is-blank-part-requires
-is-blank-part-requires c κs = search needs
+is-blank-rest-requires : tie.Need-is-blank-rest-requires
+is-blank-rest-requires c κs = search needs
 
 value-of-requires : tie.Need-value-of-requires
 value-of-requires c κs = search needs
@@ -70,10 +70,10 @@ read-trade-spec =
     part-read-side-start
     part-read-side-end
     read-side-requires
-    sub-is-blank-part
-    part-is-blank-part-start
-    part-is-blank-part-end
-    is-blank-part-requires
+    sub-is-blank-rest
+    part-is-blank-rest-start
+    part-is-blank-rest-end
+    is-blank-rest-requires
     value-of-requires
     wide-requires
     trade-formed-requires
