@@ -3,6 +3,7 @@ use Prim.Native.Nat.{ℕ, _-_, _≤_}
 use mathlib.Core.Path.{_≡_}
 use mathlib.Core.Bool.{true, false}
 use mathlib.Core.List.{List}
+use lib.Dec.{ltb}
 use lib.ListN.{length, take}
 use Rattle.rules.specs.Day.{opened}
 use Rattle.rules.specs.declared.Settings.{Settings}
@@ -34,10 +35,13 @@ pub record Within (s : State) (n : ℕ) : Type 0 where
 abbrev pub unread : State → List ℕ → List ℕ
 unread s block = unused (s .at) (s .have) block
 
--- more was read: what was not yet used is kept, before the bytes that came; nothing else of the state moved but whether there is more
+-- more was read: what was not yet used stands at the block's front, before the bytes that came, and there is more to read
+-- exactly if any came; nothing else of the state moved
 pub record More (s : State) (block : List ℕ) (r : State) (block′ : List ℕ) : Type 0 where
   pub within : Within r (length block′)
+  pub at-front : r .at ≡ 0
   pub kept : take (s .have - s .at) (unread r block′) ≡ unread s block
+  pub more : r .going ≡ ltb (s .have - s .at) (r .have)
   pub settings-same : r .settings ≡ s .settings
   pub number-same : r .number ≡ s .number
   pub passing-same : r .passing ≡ s .passing

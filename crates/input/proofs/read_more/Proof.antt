@@ -13,7 +13,7 @@ same-length : tie.Need-same-length
 same-length c = search needs
 
 returns : tie.Need-returns
-returns c = record { within = record { from-to = search needs; to-end = search needs }; kept = search needs; settings-same = refl; number-same = refl; passing-same = refl }
+returns c = record { within = record { from-to = search needs; to-end = search needs }; at-front = refl; kept = search needs; more = refl; settings-same = refl; number-same = refl; passing-same = refl }
 
 pub read-more-spec : {M : Type 1} → statement M
 read-more-spec = tie.close (tie.spec read-behind-requires sub-r same-length returns)
