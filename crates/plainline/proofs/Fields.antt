@@ -5,22 +5,24 @@ use mathlib.Core.Path.{_≡_, refl, sym, ap, _∙_, subst}
 use mathlib.Core.Bool.{Bool, true, false, _&&_, _||_, not}
 use mathlib.Core.List.{List, [], _∷_}
 use lib.ListN.{length, getD, take, drop, length-take, length-drop}
-use lib.Seq.{drop-cons, take-all, take-take, drop-drop}
+use lib.Seq.{drop-cons, take-all, take-take, take-add, drop-drop}
 use lib.Dec.{leb, ltb, eqb}
 use borrow.Author.Tests.{eq-eqb, ne-eqb, eqb-true, leb-true, le-leb, lt-leb, not-true, not-false}
 use Rattle.text.specs.Pick.{pick, all, among}
 use Rattle.text.specs.Reading.{span, isDigit}
 use Rattle.text.specs.Bytes.{bytes}
 use Rattle.text.proofs.Texts.{and-left, and-right}
+use Rattle.text.proofs.Parts.{all-append}
 use Rattle.field.proofs.Texts.{word-stop}
-use Rattle.numbers.proofs.Numbers.{last, field-digits}
+use Rattle.aligned.specs.Columns.{stands, worthOf, formed, placed}
+use Rattle.aligned.proofs.Numbers.{number-stands, stands-at}
 use Rattle.rules.specs.declared.Number.{Number}
 use Rattle.rules.specs.declared.Number.the-variants.{Blank, Bad, Is}
 use Rattle.rules.specs.Columns.{columns, column, isBlank, blank, word, filled, justified, digitsFrom, zeroAlone, numeral, numberIn, isNumber, numberOrBlank, valueOf, passes, between}
 use Rattle.rules.specs.Conditions.{isCondition, lettersFormed, lettersIn, lawfulLetters, unrepeated, atMostOne}
 use Rattle.rules.specs.Line.{isPrintable, isShaped, isMarket, isPrice, isSecurityNumber, volumeIn, priceIn, decimalsIn, lettersField, daysIn, previousIn, previousDecimalsIn, formedBy, rangedBy, sideBy, matchedBy, alike, previousRanged, sideFormed, sideRanged, sideOf, sideMatched, firstSide, tradeFormed, tradeRanged, tradeOf}
 use Rattle.plainline.specs.declared.Plain.{Plain}
-use Rattle.plainline.specs.Plain.{noLetters, plainSide, plainTrade, PlainSide, PlainFields, PlainLine}
+use Rattle.plainline.specs.Plain.{noLetters, plainSide, plainTrade, PlainValues, PlainSide, PlainFields, PlainLine}
 
 -- ---- parts of parts
 
@@ -255,9 +257,9 @@ line-printable line p l t h =
 
 -- ---- the line
 
--- the price's columns, of the line and of its side
-drop-side : (line : List ℕ) → take 14 (drop 9 (firstSide line)) ≡ take 14 (drop 15 line)
-drop-side line = cut 14 9 46 (drop 6 line) (omega arith) ∙ rw (drop-drop 9 6 line)
+-- columns of the line's side are columns of the line
+side-columns : (j k : ℕ) (line : List ℕ) → j + k ≤ 46 → take k (drop j (firstSide line)) ≡ take k (drop (6 + j) line)
+side-columns j k line h = cut k j 46 (drop 6 line) h ∙ rw (drop-drop j 6 line)
 
 pub plain-line : (line : List ℕ) (p : Plain) → length line ≡ 100 → column 1 line ≡ 84 → PlainFields line p → PlainLine line p
 unfolding isShaped tradeFormed tradeRanged tradeOf isNumber valueOf plainTrade
@@ -267,16 +269,8 @@ plain-line line p l t h = record {
   formed = rw (h .security-is, h .market-is, h .market, side-formed (firstSide line) p (h .side), h .rest);
   ranged = rw (h .security-is, h .place, side-ranged (firstSide line) p (h .side));
   trade = rw (h .security-is, h .market-is, side-is (firstSide line) p (h .side), side-lawful (firstSide line) p (h .side), side-matched (firstSide line) p (h .side));
-  n-is = ap numberIn (sym (drop-side line)) ∙ h .side .n-is;
+  n-is = ap numberIn (sym (side-columns 9 14 line (omega arith))) ∙ h .side .n-is;
 }
-
--- ---- a number from 1 up; nothing is promised of 0
-
-pub worth : (s : List ℕ) (i acc : ℕ) (x : Number) → digitsFrom acc (drop i s) ≡ x → length s ≤ i → 1 ≤ acc → x ≡ Is acc
-worth s i acc x e h k = sym (last s i acc x e h)
-
-pub some-number : (s : List ℕ) (i r : ℕ) → justified s ≡ drop i s → i < length s → (getD s i 0 ≡ 48 → ⊥) → (1 ≤ r → digitsFrom 0 (take (length s - i) (drop i s)) ≡ Is r) → 1 ≤ r → numberIn s ≡ Is r
-some-number s i r e h q d k = sym (field-digits s i (Is r) e h q (sym (d k)))
 
 -- ---- the fields, each as it was read
 
@@ -294,34 +288,74 @@ from-one : (n d : ℕ) → isPrice n d ≡ true → 1 ≤ n
 unfolding isPrice
 from-one n d h = leb-true 1 n (and-left (leb 1 n) _ h)
 
-module _ (part : List ℕ) (b q : Bool) (v n w : ℕ) where
-  pub side-read : length part ≡ 46 → b ≡ blank (take 22 (drop 24 part)) → not b ≡ false → 48 ≤ getD part 23 0 → getD part 23 0 ≤ 56
-      → (1 ≤ v → numberIn (take 9 part) ≡ Is v) → 1 ≤ v → (1 ≤ n → numberIn (take 14 (drop 9 part)) ≡ Is n) → w ≡ getD part 23 0 → q ≡ isPrice n (w - 48) → not q ≡ false
-      → 1 ≤ 1 → PlainSide part (record { security = 1; market = 0; volume = v; n = n; d = w - 48 })
-  side-read l eb nb lo hi fv sv fn ew eq nq o = record {
-    volume-is = fv sv;
-    some = sv;
-    n-is = fn (from-one n (w - 48) (sym eq ∙ not-false q nq));
-    d-is = rw ew (digit-column part 23 (omega arith) lo (omega arith));
+module _ (line : List ℕ) (m s q : Bool) (v a n w x : ℕ) where
+  pub values-read : length line ≡ 100 → 48 ≤ getD line 29 0 → getD line 29 0 ≤ 56 → m ≡ isMarket (getD line 5 0) → not m ≡ false → v ≡ worthOf 0 (take 4 (drop 1 line)) → s ≡ isSecurityNumber v → not s ≡ false
+      → a ≡ worthOf 0 (take 9 (drop 6 line)) → 1 ≤ a → n ≡ worthOf 0 (take 14 (drop 15 line)) → w ≡ getD line 29 0 → q ≡ isPrice n (w - 48) → not q ≡ false → x ≡ getD line 5 0
+      → 1 ≤ v → PlainValues line (record { security = v; market = x; volume = a; n = n; d = w - 48 })
+  values-read l lo hi em nm ev es ns ea sa en ew eq nq ex k = record {
+    security-is = ev;
+    place = sym es ∙ not-false s ns;
+    market-is = sym ex;
+    market = rw ex (sym em ∙ not-false m nm);
+    volume-is = ea;
+    some = sa;
+    n-is = en;
+    d-is = rw ew (digit-column line 29 (omega arith) lo (omega arith));
     price = sym eq ∙ not-false q nq;
-    rest = sym eb ∙ not-false b nb;
   }
 
-pub none-side : (part : List ℕ) (r : Plain) → r .security ≡ 0 → 1 ≤ r .security → PlainSide part r
-none-side part r e h = absurd (omega arith)
+pub none-values : (line : List ℕ) (r : Plain) → r .security ≡ 0 → 1 ≤ r .security → PlainValues line r
+none-values line r e h = absurd (omega arith)
 
-module _ (line : List ℕ) (b m q : Bool) (v w : ℕ) (p : Plain) where
-  pub fields-read : b ≡ blank (take 48 (drop 52 line)) → not b ≡ false → m ≡ isMarket (getD line 5 0) → not m ≡ false → (1 ≤ v → numberIn (take 4 (drop 1 line)) ≡ Is v) → q ≡ isSecurityNumber v → not q ≡ false
-      → (1 ≤ p .security → PlainSide (take 46 (drop 6 line)) p) → 1 ≤ p .security → w ≡ getD line 5 0
-      → 1 ≤ v → PlainFields line (record { security = v; market = w; volume = p .volume; n = p .n; d = p .d })
-  fields-read eb nb em nm fv eq nq fp sp ew k = record {
-    security-is = fv k;
-    place = sym eq ∙ not-false q nq;
-    market-is = sym ew;
-    market = rw ew (sym em ∙ not-false m nm);
-    side = record { volume-is = fp sp .volume-is; some = fp sp .some; n-is = fp sp .n-is; d-is = fp sp .d-is; price = fp sp .price; rest = fp sp .rest };
-    rest = sym eb ∙ not-false b nb;
+-- ---- the numbers, by their places in the tables
+
+-- the tables have the security at column 2, the volume at column 7, n at column 16
+unfoldable pub tabled : List ℕ → List ℕ → Bool
+tabled fs ms = placed true 4 fs ms && (placed true 9 (drop 5 fs) (drop 5 ms) && placed true 14 (drop 14 fs) (drop 14 ms))
+
+-- a number of k columns from column j of the tables on
+number-at : (fs ms line : List ℕ) (j k n : ℕ) → formed fs ms (getD (take 33 line) 0 0) (drop 1 (take 33 line)) ≡ true → j + k ≤ 32 → placed true k (drop j fs) (drop j ms) ≡ true
+    → n ≡ worthOf 0 (take k (drop (1 + j) line)) → 1 ≤ n → numberIn (take k (drop (1 + j) line)) ≡ Is n
+number-at fs ms line j k n f h t q w =
+    let e : take k (drop j (drop 1 (take 33 line))) ≡ take k (drop (1 + j) line) = rw (drop-drop j 1 (take 33 line)) (cut k (1 + j) 33 line (omega arith)) in
+    number-stands _ (ap (stands true) (sym e) ∙ stands-at true j k fs ms _ _ t f) (omega arith) ∙ ap Is (sym q)
+
+-- blanks from column 31 on, of the line's side
+side-rest : (line : List ℕ) → blank (take 6 (drop 30 line)) ≡ true → blank (take 64 (drop 36 line)) ≡ true → blank (take 22 (drop 24 (firstSide line))) ≡ true
+unfolding blank
+side-rest line h k =
+    rw (side-columns 24 22 line (omega arith), take-add 6 16 (drop 30 line), drop-drop 6 30 line)
+    (all-append isBlank (take 6 (drop 30 line)) (take 16 (drop 36 line)) h (blank-part 16 0 64 (drop 36 line) (omega arith) k))
+
+module _ (fs ms line : List ℕ) (p : Plain) (t : tabled fs ms ≡ true) (f : formed fs ms (getD (take 33 line) 0 0) (drop 1 (take 33 line)) ≡ true) (b : blank (take 64 (drop 36 line)) ≡ true) (g : blank (take 6 (drop 30 line)) ≡ true) (v : PlainValues line p) where
+  later-tables : (placed true 9 (drop 5 fs) (drop 5 ms) && placed true 14 (drop 14 fs) (drop 14 ms)) ≡ true
+  unfolding tabled
+  later-tables = and-right (placed true 4 fs ms) _ t
+
+  fields-side : PlainSide (firstSide line) p
+  fields-side = record {
+    volume-is = ap numberIn (side-columns 0 9 line (omega arith)) ∙ number-at fs ms line 5 9 (p .volume) f (omega arith) (and-left (placed true 9 (drop 5 fs) (drop 5 ms)) _ later-tables) (v .volume-is) (v .some);
+    some = v .some;
+    n-is = ap numberIn (side-columns 9 14 line (omega arith)) ∙ number-at fs ms line 14 14 (p .n) f (omega arith) (and-right (placed true 9 (drop 5 fs) (drop 5 ms)) _ later-tables) (v .n-is) (from-one (p .n) (p .d) (v .price));
+    d-is = ap numberIn (side-columns 23 1 line (omega arith)) ∙ v .d-is;
+    price = v .price;
+    rest = side-rest line g b;
   }
+
+  plain-fields : 1 ≤ p .security → PlainFields line p
+  unfolding tabled
+  plain-fields k = record {
+    security-is = number-at fs ms line 0 4 (p .security) f (omega arith) (and-left (placed true 4 fs ms) _ t) (v .security-is) k;
+    place = v .place;
+    market-is = v .market-is;
+    market = v .market;
+    side = fields-side;
+    rest = rw (drop-drop 16 36 line) at (blank-part 48 16 64 (drop 36 line) (omega arith) b);
+  }
+
+pub fields-read : (fs ms line : List ℕ) (f b g : Bool) (p : Plain) → f ≡ formed fs ms (getD (take 33 line) 0 0) (drop 1 (take 33 line)) → not f ≡ false → tabled fs ms ≡ true → b ≡ blank (take 64 (drop 36 line)) → not b ≡ false → g ≡ blank (take 6 (drop 30 line)) → not g ≡ false
+    → (1 ≤ p .security → PlainValues line p) → 1 ≤ p .security → PlainFields line p
+fields-read fs ms line f b g p ef nf t eb nb eg ng v k = plain-fields fs ms line p t (sym ef ∙ not-false f nf) (sym eb ∙ not-false b nb) (sym eg ∙ not-false g ng) (v k) k
 
 pub none-fields : (line : List ℕ) (r : Plain) → r .security ≡ 0 → 1 ≤ r .security → PlainFields line r
 none-fields line r e h = absurd (omega arith)

@@ -10,6 +10,7 @@ use Rattle.rules.specs.declared.Side.{Side}
 use Rattle.rules.specs.declared.Trade.{Trade}
 use Rattle.rules.specs.Columns.{columns, column, numberIn, blank}
 use Rattle.rules.specs.Line.{isShaped, isMarket, isPrice, isSecurityNumber, volumeIn, priceIn, decimalsIn, firstSide, tradeFormed, tradeRanged, tradeOf}
+use Rattle.aligned.specs.Columns.{worthOf}
 use Rattle.plainline.specs.declared.Plain.{Plain}
 
 unfoldable pub noLetters : Letters
@@ -21,6 +22,18 @@ plainSide volume n d = record { volume = volume; price = record { n = n; d = d }
 
 unfoldable pub plainTrade : Plain → Trade
 plainTrade p = record { security = p .security; market = p .market; side = plainSide (p .volume) (p .n) (p .d); lawful = true; matched = true }
+
+-- what the line's columns are worth
+pub record PlainValues (line : List ℕ) (p : Plain) : Type 0 where
+  pub security-is : p .security ≡ worthOf 0 (columns 2 5 line)
+  pub place : isSecurityNumber (p .security) ≡ true
+  pub market-is : column 6 line ≡ p .market
+  pub market : isMarket (p .market) ≡ true
+  pub volume-is : p .volume ≡ worthOf 0 (columns 7 15 line)
+  pub some : 1 ≤ p .volume
+  pub n-is : p .n ≡ worthOf 0 (columns 16 29 line)
+  pub d-is : numberIn (columns 30 30 line) ≡ Is (p .d)
+  pub price : isPrice (p .n) (p .d) ≡ true
 
 -- what the side's columns hold
 pub record PlainSide (part : List ℕ) (p : Plain) : Type 0 where

@@ -3,9 +3,7 @@
 ghost use mathlib.Core.Path.{_≡_};
 ghost use Prim.Native.Nat.{_≤_};
 ghost use lib.ListN.{length};
-ghost use Rattle.rules.specs.declared.Number.the-variants.{Is};
-ghost use Rattle.rules.specs.Columns.{digitsFrom, numberIn};
-ghost use Rattle.plainline.specs.Plain.{PlainSide, PlainFields, PlainLine};
+ghost use Rattle.plainline.specs.Plain.{PlainValues, PlainFields, PlainLine};
 
 // The fields of a plain trade; the security is 0 where the line is none.
 pub struct Plain {
@@ -28,106 +26,64 @@ pub fn nothing() -> Plain
     }
 }
 
-// ---- numbers from 1 up
-
-// What digits to the field's end are worth; 0 where any other byte stands there.
-fn digits_worth(field: &[u8]) -> u64
-    requires { ⌜ length (now field) ≤ 19 ⌝ }
-    ensures { λ r. ⌜ (1 ≤ r → digitsFrom 0 (now (field .entry)) ≡ Is r) ⌝ }
-{
-    let mut acc: u64 = 0;
-    let mut i = 0;
-    while i < field.len() {
-        let c = field[i];
-        if c < b'0' {
-            return 0;
-        }
-        if b'9' < c {
-            return 0;
-        }
-        acc = acc * 10 + (text::wide(c) - 48);
-        i += 1;
-    }
-    acc
-}
-
-// The number in a field; 0 where none stands there.
-fn read_some(field: &[u8]) -> u64
-    requires { ⌜ length (now field) ≤ 19 ⌝ }
-    ensures { λ r. ⌜ (1 ≤ r → numberIn (now (field .entry)) ≡ Is r) ⌝ }
-{
-    let at = numbers::blanks(field);
-    if field.len() <= at {
-        return 0;
-    }
-    if field[at] == b'0' {
-        return 0;
-    }
-    digits_worth(&field[at..])
-}
-
 // ---- the line
 
-// The side's 46 columns: volume, n and d, then blanks.
-fn read_side(part: &[u8]) -> Plain
-    requires { ⌜ length (now part) ≡ 46 ⌝ }
-    ensures { λ r. ⌜ (1 ≤ r .security → PlainSide (now (part .entry)) r) ⌝ }
+// Security, market, volume and price by what their columns are worth, each within its values.
+fn read_values(line: &[u8]) -> Plain
+    requires { ⌜ length (now line) ≡ 100 ⌝ }
+    ensures { λ r. ⌜ (1 ≤ r .security → PlainValues (now (line .entry)) r) ⌝ }
 {
-    if !field::is_blank_part(&part[24..46]) {
-        return nothing();
-    }
-    let c = part[23];
+    let c = line[29];
     if c < b'0' {
         return nothing();
     }
     if b'8' < c {
         return nothing();
     }
-    let volume = read_some(&part[0..9]);
+    let market = line[5];
+    if !field::is_market(market) {
+        return nothing();
+    }
+    let security = aligned::worth(&line[1..5]);
+    if !numbers::is_security_number(security) {
+        return nothing();
+    }
+    let volume = aligned::worth(&line[6..15]);
     if volume < 1 {
         return nothing();
     }
-    let n = read_some(&part[9..23]);
+    let n = aligned::worth(&line[15..29]);
     let d = text::wide(c) - 48;
     if !numbers::is_price(n, d) {
         return nothing();
     }
     Plain {
-        security: 1,
-        market: 0,
+        security: security,
+        market: text::wide(market),
         volume: volume,
         n: n,
         d: d,
     }
 }
 
-// Security and market before the side, blanks behind it.
+// Security in columns 2 to 5, volume in 7 to 15, n in 16 to 29; blanks from 31 on. Of the other columns up to 33 the tables
+// ask nothing that a plain line does not have.
 fn read_fields(line: &[u8]) -> Plain
     requires { ⌜ length (now line) ≡ 100 ⌝ }
     ensures { λ r. ⌜ (1 ≤ r .security → PlainFields (now (line .entry)) r) ⌝ }
 {
-    if !field::is_blank_part(&line[52..100]) {
+    let front = b" ~~~~ ~~~~~~~~ ~~~~~~~~~~~~~~   ";
+    let most = b"9999~999999999999999999999999~~~";
+    if !aligned::is_formed(front, most, &line[0..33]) {
         return nothing();
     }
-    let market = line[5];
-    if !field::is_market(market) {
+    if !field::is_blank_part(&line[36..100]) {
         return nothing();
     }
-    let security = read_some(&line[1..5]);
-    if !numbers::is_security_number(security) {
+    if !field::is_blank_part(&line[30..36]) {
         return nothing();
     }
-    let side = read_side(&line[6..52]);
-    if side.security < 1 {
-        return nothing();
-    }
-    Plain {
-        security: security,
-        market: text::wide(market),
-        volume: side.volume,
-        n: side.n,
-        d: side.d,
-    }
+    read_values(line)
 }
 
 // Any bytes of any length.
