@@ -3,10 +3,11 @@ use Prim.Native.Nat.{ℕ, zero, suc, _+_, _-_, _^_, _≤_, _<_}
 use native.Mathlib.Omega.{arith}
 use mathlib.Core.Path.{_≡_, refl, sym, ap, _∙_}
 use mathlib.Core.List.{List, [], _∷_, _++_}
-use lib.ListN.{length, drop, set, replicate, length-append, length-replicate}
-use Rattle.text.specs.Decimal.{decimal}
+use lib.ListN.{length, take, drop, set, replicate, length-append, length-replicate}
+use Rattle.text.specs.Decimal.{decimal, places}
 use Rattle.text.specs.Put.{put, Written}
-use Rattle.text.proofs.Decimal.{length-decimal}
+use Rattle.text.proofs.Decimal.{length-decimal, decimal-places}
+use Rattle.text.proofs.Writing.{room}
 use Rattle.right.specs.Justified.{right}
 
 -- a turn's store: one blank more
@@ -25,12 +26,18 @@ blanks-done b a i k l m h w =
 -- ---- a number in its width, by the digits and blanks that were counted
 
 module _ (width n k b : ℕ) (digits : k ≡ length (decimal n)) (filled : b ≡ width - k) where
-  pub right-parts : right width n ≡ replicate b 32 ++ decimal n
+  in-parts : right width n ≡ replicate b 32 ++ decimal n
   unfolding right
-  right-parts = rw (filled, digits)
+  in-parts = rw (filled, digits)
+
+  pub right-parts : right width n ≡ replicate b 32 ++ places k n
+  right-parts = rw (in-parts, digits, decimal-places n)
 
   pub blanks-room : (m : ℕ) → length (right width n) ≤ m → b ≤ m
-  blanks-room m h = omega (arith, simp (right-parts, length-append, length-replicate) at h)
+  blanks-room m h = omega (arith, simp (in-parts, length-append, length-replicate) at h)
+
+  pub digits-room : {t xs : List ℕ} {at : ℕ} → Written (replicate b 32) t xs at → length (right width n) ≤ length t → k ≤ length (take (length xs - at) (drop at xs))
+  digits-room v h = rw digits (room (decimal n) v (rw (← in-parts) h))
 
 -- a number that its width holds fills it
 pub length-right : (w n : ℕ) → n < 10 ^ suc w → length (right (suc w) n) ≡ suc w

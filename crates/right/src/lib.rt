@@ -35,5 +35,5 @@ pub fn write_right(rest: &mut [u8], width: usize, n: u64) -> usize
     let k = text::decimal_length(n);
     let b = blanks(width, k);
     let at = write_blanks(rest, b);
-    at + text::write_decimal(&mut rest[at..], n)
+    at + text::write_places(&mut rest[at..], n, k)
 }

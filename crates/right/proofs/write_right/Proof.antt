@@ -1,5 +1,5 @@
-use Rattle.text.proofs.Writing.{joined, room, fits}
-use Rattle.right.proofs.Writes.{right-parts, blanks-room}
+use Rattle.text.proofs.Writing.{joined}
+use Rattle.right.proofs.Writes.{right-parts, blanks-room, digits-room}
 use borrow.Author.Needs.{needs}
 use Rattle.right.proofs.write_right.Statement.{statement}
 use Rattle.right.proofs.write_right.Tie as tie
@@ -13,17 +13,17 @@ blanks-requires c κs = search needs
 write-blanks-requires : tie.Need-write-blanks-requires
 write-blanks-requires c κs = search blanks-room
 
-sub-write-decimal : tie.Need-sub-write-decimal
-sub-write-decimal c = search needs
+sub-write-places : tie.Need-sub-write-places
+sub-write-places c = search needs
 
-part-write-decimal-start : tie.Need-part-write-decimal-start
-part-write-decimal-start c = search needs
+part-write-places-start : tie.Need-part-write-places-start
+part-write-places-start c = search needs
 
-part-write-decimal-end : tie.Need-part-write-decimal-end
-part-write-decimal-end c = search needs
+part-write-places-end : tie.Need-part-write-places-end
+part-write-places-end c = search needs
 
-write-decimal-requires : tie.Need-write-decimal-requires
-write-decimal-requires c κs = search (room, fits, right-parts)
+write-places-requires : tie.Need-write-places-requires
+write-places-requires c κs = search digits-room
 
 add-result : tie.Need-add-result
 add-result c = search needs
@@ -41,10 +41,10 @@ write-right-spec =
     decimal-length-requires
     blanks-requires
     write-blanks-requires
-    sub-write-decimal
-    part-write-decimal-start
-    part-write-decimal-end
-    write-decimal-requires
+    sub-write-places
+    part-write-places-start
+    part-write-places-end
+    write-places-requires
     add-result
     same-length
     returns)
