@@ -11,11 +11,11 @@ use borrow.Author.Tests.{le-leb, lt-leb, leb-true, eq-eqb, ne-eqb, not-true, not
 use Rattle.text.specs.Bytes.{bytes}
 use Rattle.text.specs.Pick.{pick, same, among}
 use Rattle.text.specs.Reading.{heads}
-use Rattle.text.proofs.Texts.{and-left}
+use Rattle.text.proofs.Texts.{and-left, and-right}
 use Rattle.text.proofs.Parts.{rest-is}
 use Rattle.rules.specs.Tape.{isLetter, isRaised}
 use Rattle.rules.specs.Names.{isSuffix}
-use Rattle.heading.specs.Name.{countOf, endsIn, suffixText, lawfulRoot, endsLawfully, appendageOf, nameOn}
+use Rattle.heading.specs.Name.{countOf, endsIn, suffixText, lawfulRoot, plainEnd, endsLawfully, nameAlone, appendageOf, nameOn}
 
 -- ---- a text at the end
 
@@ -83,3 +83,19 @@ module _ (t : Bool) (network : ℕ) (name : List ℕ) (n : ℕ) (q : Bool) (e : 
   pub on-b : (r : Bool) → not q ≡ false → (network ≡ 65 → ⊥) → r ≡ endsLawfully t (bytes ".DL") (take (length name - n) (drop n name)) → r ≡ nameOn t network name
   unfolding nameOn appendageOf pick
   on-b r y a f = rw (← e, ← k, not-false q y, ne-eqb network 65 a) (rw (rest-is name n) at f)
+
+module _ (t : Bool) (name : List ℕ) (n : ℕ) (q : Bool) (e : n ≡ countOf isLetter 7 name) (k : q ≡ lawfulRoot (take n name)) where
+  pub alone-no : not q ≡ true → false ≡ nameAlone t name
+  unfolding nameAlone
+  alone-no y = rw (← e, ← k, not-true q y)
+
+  pub alone-is : (r : Bool) → not q ≡ false → r ≡ plainEnd t (take (length name - n) (drop n name)) → r ≡ nameAlone t name
+  unfolding nameAlone
+  alone-is r y f = rw (← e, ← k, not-false q y) (rw (rest-is name n) at f)
+
+-- a name without an appendage is one on each network
+pub alone-on : (t : Bool) (network : ℕ) (name : List ℕ) → nameAlone t name ≡ true → nameOn t network name ≡ true
+unfolding nameAlone nameOn endsLawfully
+alone-on t network name h =
+    let n = countOf isLetter 7 name in
+    rw (and-left (lawfulRoot (take n name)) (plainEnd t (drop n name)) h, and-right (lawfulRoot (take n name)) (plainEnd t (drop n name)) h)

@@ -14,7 +14,7 @@ use Rattle.text.proofs.Parts.{rest-is, starts-within}
 use Rattle.named.specs.Cut.{isAfter}
 use Rattle.rules.specs.Tape.{isUpper}
 use Rattle.rules.specs.declared.Letters.{Letters}
-use Rattle.heading.specs.Name.{countOf, nameOn}
+use Rattle.heading.specs.Name.{countOf, nameAlone, nameOn}
 use Rattle.heading.specs.Head.{soldIn, afterIn, nameCount, namedBy, inRun, headAt, againBy, againIn, againAt}
 use Rattle.heading.specs.declared.AfterAnswer.{AfterAnswer}
 use Rattle.heading.specs.declared.AfterAnswer.the-variants.{After, NoAfter}
@@ -22,6 +22,7 @@ use Rattle.heading.specs.declared.NameAnswer.{NameAnswer}
 use Rattle.heading.specs.declared.NameAnswer.the-variants.{Named, NoName}
 use Rattle.heading.specs.declared.AgainAnswer.{AgainAnswer}
 use Rattle.heading.specs.declared.AgainAnswer.the-variants.{Again, NotAgain}
+use Rattle.heading.proofs.Ends.{alone-on}
 
 -- ---- the conditions after a name
 
@@ -76,6 +77,10 @@ module _ (t : Bool) (name : List ℕ) (used : ℕ) (after : AfterAnswer) (letter
   pub named-none : a ≡ false → b ≡ false → NoName ≡ namedBy t name used after
   unfolding pick
   named-none n m = rw (named-is, n, m)
+
+pub named-alone : (t : Bool) (name : List ℕ) (used : ℕ) (after : AfterAnswer) (letters : Letters) (p : Bool) → after ≡ After letters → p ≡ nameAlone t name → p ≡ true → Named (record { length = length name; used = used; letters = letters; a = true; b = true }) ≡ namedBy t name used after
+unfolding namedBy pick
+named-alone t name used after letters p e f y = rw (e, alone-on t 65 name (sym f ∙ y), alone-on t 66 name (sym f ∙ y))
 
 pub run-is : (t : Bool) (run : List ℕ) (n : ℕ) (a : AfterAnswer) (r : NameAnswer) → n ≡ nameCount run → a ≡ afterIn (take (length run - n) (drop n run)) → r ≡ namedBy t (take n run) (length run) a → r ≡ inRun t run
 unfolding inRun

@@ -56,6 +56,10 @@ lawfulRoot root = between 1 6 (length root) && not (isReserved root)
 abbrev pub rootCount : List ℕ → ℕ
 rootCount name = countOf isLetter 7 name
 
+-- the text is a name without an appendage, and so that of a security on either network
+unfoldable pub nameAlone : Bool → List ℕ → Bool
+nameAlone temporary name = lawfulRoot (take (rootCount name) name) && plainEnd temporary (drop (rootCount name) name)
+
 -- the appendage of a network: BC on A, DL on B
 unfoldable pub appendageOf : ℕ → List ℕ
 appendageOf network = pick (eqb network 65) (bytes ".BC") (bytes ".DL")

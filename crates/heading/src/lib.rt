@@ -10,7 +10,7 @@ ghost use Rattle.text.specs.Reading.{heads, starts};
 ghost use Rattle.rules.specs.Tape.{isLetter, isUpper, isRaised};
 ghost use Rattle.rules.specs.Names.{isSuffix};
 ghost use Rattle.named.specs.Cut.{isAfter};
-ghost use Rattle.heading.specs.Name.{countOf, endsIn, suffixText, withEnd, plainEnd, endsLawfully, lawfulRoot, nameOn};
+ghost use Rattle.heading.specs.Name.{countOf, endsIn, suffixText, withEnd, plainEnd, endsLawfully, lawfulRoot, nameAlone, nameOn};
 ghost use Rattle.heading.specs.Head.{lettersAfter, soldIn, afterIn, nameCount, namedBy, inRun, headAt, againBy, againIn, againAt};
 
 // The conditions after a name, as letters, or none.
@@ -210,6 +210,17 @@ fn lawful_root(root: &[u8]) -> bool
     !suffix::is_reserved(root)
 }
 
+// A name without an appendage: that of a security on either network.
+fn is_name_alone(temporary: bool, name: &[u8]) -> bool
+    ensures { λ r. ⌜ r ≡ nameAlone temporary (now (name .entry)) ⌝ }
+{
+    let n = letter_count(name);
+    if !lawful_root(&name[..n]) {
+        return false;
+    }
+    plain_end(temporary, &name[n..])
+}
+
 // The name of a security on the network, 65 or 66.
 fn name_on(temporary: bool, network: u64, name: &[u8]) -> bool
     ensures { λ r. ⌜ r ≡ nameOn temporary network (now (name .entry)) ⌝ }
@@ -321,6 +332,15 @@ fn named_by(temporary: bool, name: &[u8], used: usize, after: AfterAnswer) -> Na
         return NameAnswer::NoName;
     };
     let length = name.len();
+    if is_name_alone(temporary, name) {
+        return NameAnswer::Named(NameRead {
+            length,
+            used,
+            letters,
+            a: true,
+            b: true,
+        });
+    }
     let a = name_on(temporary, 65, name);
     let b = name_on(temporary, 66, name);
     if a {
