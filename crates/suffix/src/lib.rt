@@ -148,13 +148,32 @@ fn is_preferred(text: &[u8]) -> bool
     is_preferred_series(text)
 }
 
+// A suffix of one byte.
+fn is_short_suffix(b: u8) -> bool
+    ensures { λ r. ⌜ r ≡ isSuffix (b ∷ []) ⌝ }
+{
+    match b {
+        b'A' => true,
+        b'B' => true,
+        b'U' => true,
+        b'r' => true,
+        b'w' => true,
+        b'p' => true,
+        _ => false,
+    }
+}
+
+// The list is gone through last: it is long.
 pub fn is_suffix(text: &[u8]) -> bool
     ensures { λ r. ⌜ r ≡ isSuffix (now (text .entry)) ⌝ }
 {
-    if is_listed(text) {
+    if text.len() == 1 {
+        return is_short_suffix(text[0]);
+    }
+    if is_preferred(text) {
         return true;
     }
-    is_preferred(text)
+    is_listed(text)
 }
 
 fn is_temporary(text: &[u8]) -> bool
