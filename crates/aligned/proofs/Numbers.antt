@@ -7,9 +7,9 @@ use mathlib.Core.Path.{_≡_, refl, sym, ap, _∙_}
 use mathlib.Core.Bool.{Bool, true, false, _&&_, _||_, not}
 use mathlib.Core.List.{List, [], _∷_}
 use lib.ListN.{length, getD, take, drop, drop-of-length-le}
-use lib.Seq.{drop-cons}
+use lib.Seq.{drop-cons, take-take, drop-drop}
 use lib.Dec.{leb, ltb, eqb}
-use borrow.Author.Tests.{ne-eqb, eqb-true, leb-true, leb-false, le-leb, lt-ltb, le-ltb, not-true}
+use borrow.Author.Tests.{eq-eqb, ne-eqb, eqb-true, leb-true, leb-false, le-leb, lt-ltb, le-ltb, not-true}
 use Rattle.text.specs.Pick.{pick}
 use Rattle.text.specs.Reading.{isDigit}
 use Rattle.text.proofs.Texts.{and-left, and-right}
@@ -17,6 +17,7 @@ use Rattle.text.proofs.Booleans.{and-false, and-both}
 use Rattle.rules.specs.declared.Number.the-variants.{Is}
 use Rattle.rules.specs.Columns.{isBlank, justified, digitsFrom, numeral, numberIn, between}
 use Rattle.aligned.specs.Columns.{goesOn, stands, worthOf, fits, formed, begins, placed}
+use Rattle.aligned.proofs.Parts.{cut}
 
 -- ---- what stands in a column
 
@@ -114,9 +115,19 @@ placed-stands first (suc k) (f ∷ fs) (m ∷ ms) left (c ∷ s) h e =
     (placed-fits first f m left c (and-left (begins first f) (eqb m 57 && placed false k fs ms) h) (and-left (eqb m 57) (placed false k fs ms) t) (and-left (fits f m left c) (formed fs ms c s) e))
     (placed-stands false k fs ms c s (and-right (eqb m 57) (placed false k fs ms) t) (and-right (fits f m left c) (formed fs ms c s) e))
 
--- k columns of a number, from column j of the tables on
-pub stands-at : (first : Bool) (j k : ℕ) (fs ms : List ℕ) (left : ℕ) (s : List ℕ) → placed first k (drop j fs) (drop j ms) ≡ true → formed fs ms left s ≡ true → stands (first || eqb (getD (left ∷ s) j 0) 32) (take k (drop j s)) ≡ true
-stands-at first j k fs ms left s h e = placed-stands first k (drop j fs) (drop j ms) (getD (left ∷ s) j 0) (drop j s) h (later j fs ms left s e)
+-- k columns of a number that begins at column j of the tables; the first m of s were looked at
+pub stands-in : (fs ms s : List ℕ) (m j k : ℕ) → formed fs ms (getD (take m s) 0 0) (drop 1 (take m s)) ≡ true → 1 + j + k ≤ m → placed true k (drop j fs) (drop j ms) ≡ true → stands true (take k (drop (1 + j) s)) ≡ true
+stands-in fs ms s m j k f h t =
+    let e : take k (drop j (drop 1 (take m s))) ≡ take k (drop (1 + j) s) = rw (drop-drop j 1 (take m s)) (cut k (1 + j) m s h) in
+    ap (stands true) (sym e) ∙ placed-stands true k (drop j fs) (drop j ms) _ _ t (later j fs ms _ _ f)
+
+-- the tables' first k columns, of a number that begins with a blank before them
+pub stands-on : (fs ms s : List ℕ) (m k : ℕ) → formed fs ms (getD (take (suc m) s) 0 0) (drop 1 (take (suc m) s)) ≡ true → k ≤ m → placed false k fs ms ≡ true → getD s 0 0 ≡ 32 → stands true (take (suc k) s) ≡ true
+unfolding stands goesOn between pick
+stands-on fs ms [] m k f h t e = absurd (omega arith)
+stands-on fs ms (c ∷ s) m k f h t e =
+    let g : stands (eqb c 32) (take k s) ≡ true = rw (take-take k m s h) at (placed-stands false k fs ms c (take m s) t f) in
+    rw e (ap (λ (b : Bool). stands b (take k s)) (sym (eq-eqb c 32 e)) ∙ g)
 
 -- ---- one column, as the code sets its values
 

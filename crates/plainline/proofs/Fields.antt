@@ -5,7 +5,7 @@ use mathlib.Core.Path.{_≡_, refl, sym, ap, _∙_, subst}
 use mathlib.Core.Bool.{Bool, true, false, _&&_, _||_, not}
 use mathlib.Core.List.{List, [], _∷_}
 use lib.ListN.{length, getD, take, drop, length-take, length-drop}
-use lib.Seq.{drop-cons, take-all, take-take, take-add, drop-drop}
+use lib.Seq.{drop-cons, take-all, take-add, drop-drop}
 use lib.Dec.{leb, ltb, eqb}
 use borrow.Author.Tests.{eq-eqb, ne-eqb, eqb-true, leb-true, le-leb, lt-leb, not-true, not-false}
 use Rattle.text.specs.Pick.{pick, all, among}
@@ -14,8 +14,9 @@ use Rattle.text.specs.Bytes.{bytes}
 use Rattle.text.proofs.Texts.{and-left, and-right}
 use Rattle.text.proofs.Parts.{all-append}
 use Rattle.field.proofs.Texts.{word-stop}
-use Rattle.aligned.specs.Columns.{stands, worthOf, formed, placed}
-use Rattle.aligned.proofs.Numbers.{number-stands, stands-at}
+use Rattle.aligned.specs.Columns.{worthOf, formed, placed}
+use Rattle.aligned.proofs.Parts.{cut, blank-part, blank-number}
+use Rattle.aligned.proofs.Numbers.{number-stands, stands-in}
 use Rattle.rules.specs.declared.Number.{Number}
 use Rattle.rules.specs.declared.Number.the-variants.{Blank, Bad, Is}
 use Rattle.rules.specs.Columns.{columns, column, isBlank, blank, word, filled, justified, digitsFrom, zeroAlone, numeral, numberIn, isNumber, numberOrBlank, valueOf, passes, between}
@@ -24,49 +25,16 @@ use Rattle.rules.specs.Line.{isPrintable, isShaped, isMarket, isPrice, isSecuri
 use Rattle.plainline.specs.declared.Plain.{Plain}
 use Rattle.plainline.specs.Plain.{noLetters, plainSide, plainTrade, PlainValues, PlainSide, PlainFields, PlainLine}
 
--- ---- parts of parts
-
-cut : (k j m : ℕ) (s : List ℕ) → j + k ≤ m → take k (drop j (take m s)) ≡ take k (drop j s)
-cut k zero m s h = take-take k m s (omega arith)
-cut k (suc j) zero s h = absurd (omega arith)
-cut k (suc j) (suc m) [] h = refl
-cut k (suc j) (suc m) (x ∷ s) h = cut k j m s (omega arith)
+-- ---- parts of a text that pass
 
 module _ (p : ℕ → Bool) where
-  all-take : (k : ℕ) (s : List ℕ) → all p s ≡ true → all p (take k s) ≡ true
-  unfolding all
-  all-take zero s h = refl
-  all-take (suc k) [] h = refl
-  all-take (suc k) (c ∷ s) h = rw (and-left (p c) (all p s) h, all-take k s (and-right (p c) (all p s) h))
-
-  all-drop : (k : ℕ) (s : List ℕ) → all p s ≡ true → all p (drop k s) ≡ true
-  unfolding all
-  all-drop zero s h = h
-  all-drop (suc k) [] h = refl
-  all-drop (suc k) (c ∷ s) h = all-drop k s (and-right (p c) (all p s) h)
-
-  -- both parts pass
   all-both : (k : ℕ) (s : List ℕ) → all p (take k s) ≡ true → all p (drop k s) ≡ true → all p s ≡ true
   unfolding all
   all-both zero s h g = g
   all-both (suc k) [] h g = refl
   all-both (suc k) (c ∷ s) h g = rw (and-left (p c) (all p (take k s)) h, all-both k s (and-right (p c) (all p (take k s)) h) g)
 
--- a part of a blank part
-blank-part : (k j m : ℕ) (s : List ℕ) → j + k ≤ m → blank (take m s) ≡ true → blank (take k (drop j s)) ≡ true
-unfolding blank
-blank-part k j m s h b = rw (← cut k j m s h) (all-take isBlank k (drop j (take m s)) (all-drop isBlank j (take m s) b))
-
 -- ---- a blank field
-
-blank-justified : (s : List ℕ) → blank s ≡ true → justified s ≡ []
-unfolding blank all justified pick
-blank-justified [] h = refl
-blank-justified (c ∷ s) h = rw (and-left (isBlank c) (all isBlank s) h, blank-justified s (and-right (isBlank c) (all isBlank s) h))
-
-blank-number : (s : List ℕ) → blank s ≡ true → numberIn s ≡ Blank
-unfolding numberIn numeral
-blank-number s h = rw (blank-justified s h)
 
 is-blank : (c : ℕ) → isBlank c ≡ true → c ≡ 32
 unfolding isBlank
@@ -314,11 +282,9 @@ unfoldable pub tabled : List ℕ → List ℕ → Bool
 tabled fs ms = placed true 4 fs ms && (placed true 9 (drop 5 fs) (drop 5 ms) && placed true 14 (drop 14 fs) (drop 14 ms))
 
 -- a number of k columns from column j of the tables on
-number-at : (fs ms line : List ℕ) (j k n : ℕ) → formed fs ms (getD (take 33 line) 0 0) (drop 1 (take 33 line)) ≡ true → j + k ≤ 32 → placed true k (drop j fs) (drop j ms) ≡ true
+number-at : (fs ms line : List ℕ) (j k n : ℕ) → formed fs ms (getD (take 33 line) 0 0) (drop 1 (take 33 line)) ≡ true → 1 + j + k ≤ 33 → placed true k (drop j fs) (drop j ms) ≡ true
     → n ≡ worthOf 0 (take k (drop (1 + j) line)) → 1 ≤ n → numberIn (take k (drop (1 + j) line)) ≡ Is n
-number-at fs ms line j k n f h t q w =
-    let e : take k (drop j (drop 1 (take 33 line))) ≡ take k (drop (1 + j) line) = rw (drop-drop j 1 (take 33 line)) (cut k (1 + j) 33 line (omega arith)) in
-    number-stands _ (ap (stands true) (sym e) ∙ stands-at true j k fs ms _ _ t f) (omega arith) ∙ ap Is (sym q)
+number-at fs ms line j k n f h t q w = number-stands _ (stands-in fs ms line 33 j k f h t) (omega arith) ∙ ap Is (sym q)
 
 -- blanks from column 31 on, of the line's side
 side-rest : (line : List ℕ) → blank (take 6 (drop 30 line)) ≡ true → blank (take 64 (drop 36 line)) ≡ true → blank (take 22 (drop 24 (firstSide line))) ≡ true
