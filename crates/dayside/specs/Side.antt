@@ -1,11 +1,18 @@
 -- What is read of a side: its fields, its letters, and all of it. Assumes nothing.
 use Prim.Native.Nat.{ℕ}
+use mathlib.Core.Bool.{Bool, true, _&&_}
 use mathlib.Core.List.{List}
+use Rattle.rules.specs.Columns.{columns}
 use Rattle.rules.specs.Conditions.{lettersFormed, lettersIn, lawfulLetters}
 use Rattle.rules.specs.Line.{volumeIn, priceIn, decimalsIn, lettersField, daysIn, previousIn, previousDecimalsIn, sideFormed, sideRanged, sideOf, sideMatched}
+use Rattle.aligned.specs.Columns.{stands}
 use Rattle.dayside.specs.declared.SideFields.{SideFields}
 use Rattle.dayside.specs.declared.LettersRead.{LettersRead}
 use Rattle.dayside.specs.declared.SideRead.{SideRead}
+
+-- volume and n, each from 1 up or blank, in their columns
+unfoldable pub amountsStand : List ℕ → Bool
+amountsStand part = stands true (columns 1 9 part) && stands true (columns 10 23 part)
 
 -- its numbers, and its letters
 unfoldable pub sideFields : List ℕ → SideFields

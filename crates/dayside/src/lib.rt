@@ -5,11 +5,13 @@ use rules::Number;
 use rules::Price;
 use rules::Side;
 ghost use mathlib.Core.Path.{_≡_};
-ghost use mathlib.Core.Bool.{_&&_};
+ghost use Prim.Native.Nat.{_≤_};
+ghost use mathlib.Core.Bool.{true, _&&_};
 ghost use lib.ListN.{length};
-ghost use Rattle.rules.specs.Columns.{isNumber};
+ghost use Rattle.rules.specs.Columns.{blank, numberIn, isNumber};
 ghost use Rattle.rules.specs.Line.{alike};
-ghost use Rattle.dayside.specs.Side.{sideFields, lettersRead, sideRead};
+ghost use Rattle.aligned.specs.Columns.{stands};
+ghost use Rattle.dayside.specs.Side.{amountsStand, sideFields, lettersRead, sideRead};
 ghost use Rattle.rules.specs.Line.{formedBy, rangedBy, sideBy, matchedBy};
 
 // One side of a T, X, E or C line: in its form, within its values, its value, and what refusals 10 and 11 ask of it alone.
@@ -38,17 +40,57 @@ pub struct LettersRead {
     pub lawful: bool,
 }
 
+// Volume and n stand in their columns, with a blank before the volume. What is not so is read field by field.
+fn amounts_stand(part: &[u8]) -> bool
+    requires { ⌜ length (now part) ≡ 46 ⌝ }
+    ensures { λ r. ⌜ (r ≡ true → amountsStand (now (part .entry)) ≡ true) ⌝ }
+{
+    if part[0] != b' ' {
+        return false;
+    }
+    let front = b"~~~~~~~~ ~~~~~~~~~~~~~~     ~~ ~";
+    let most = b"9999999999999999999999~~~~~~~~~~";
+    aligned::is_formed(front, most, &part[0..33])
+}
+
+// The number in a field. Where it is known to stand in its columns, what they are worth, unless that is 0.
+fn read_amount(field: &[u8], known: bool) -> Number
+    requires { ⌜ (length (now field) ≤ 14) × (known ≡ true → stands true (now field) ≡ true) ⌝ }
+    ensures { λ r. ⌜ r ≡ numberIn (now (field .entry)) ⌝ }
+{
+    if known {
+        let n = aligned::worth(field);
+        if 1 <= n {
+            return Number::Is(n);
+        }
+    }
+    numbers::read_number(field)
+}
+
+// The number in a field that may be known to be blank.
+fn read_given(field: &[u8], none: bool) -> Number
+    requires { ⌜ (length (now field) ≤ 14) × (none ≡ true → blank (now field) ≡ true) ⌝ }
+    ensures { λ r. ⌜ r ≡ numberIn (now (field .entry)) ⌝ }
+{
+    if none {
+        return Number::Blank;
+    }
+    numbers::read_number(field)
+}
+
 fn read_fields(part: &[u8]) -> SideFields
     requires { ⌜ length (now part) ≡ 46 ⌝ }
     ensures { λ r. ⌜ r ≡ sideFields (now (part .entry)) ⌝ }
 {
+    let known = amounts_stand(part);
+    let none = field::is_blank_part(&part[28..46]);
     SideFields {
-        volume: numbers::read_number(&part[0..9]),
-        n: numbers::read_number(&part[9..23]),
+        volume: read_amount(&part[0..9], known),
+        n: read_amount(&part[9..23], known),
         d: numbers::read_number(&part[23..24]),
-        days: numbers::read_number(&part[28..31]),
-        m: numbers::read_number(&part[31..45]),
-        e: numbers::read_number(&part[45..46]),
+        days: read_given(&part[28..31], none),
+        m: read_given(&part[31..45], none),
+        e: read_given(&part[45..46], none),
     }
 }
 

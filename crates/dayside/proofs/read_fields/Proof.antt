@@ -1,7 +1,47 @@
+use Rattle.dayside.proofs.Amounts.{volume-stands, n-stands, field-none}
 use Rattle.dayside.proofs.Sides.{fields-read}
 use borrow.Author.Needs.{needs}
 use Rattle.dayside.proofs.read_fields.Statement.{statement}
 use Rattle.dayside.proofs.read_fields.Tie as tie
+
+amounts-stand-requires : tie.Need-amounts-stand-requires
+amounts-stand-requires c κs = search needs
+
+sub-is-blank-part : tie.Need-sub-is-blank-part
+sub-is-blank-part c = search needs
+
+part-is-blank-part-start : tie.Need-part-is-blank-part-start
+part-is-blank-part-start c = search needs
+
+part-is-blank-part-end : tie.Need-part-is-blank-part-end
+part-is-blank-part-end c = search needs
+
+is-blank-part-requires : tie.Need-is-blank-part-requires
+is-blank-part-requires c κs = search needs
+
+sub-read-amount : tie.Need-sub-read-amount
+sub-read-amount c = search needs
+
+part-read-amount-start : tie.Need-part-read-amount-start
+part-read-amount-start c = search needs
+
+part-read-amount-end : tie.Need-part-read-amount-end
+part-read-amount-end c = search needs
+
+read-amount-requires : tie.Need-read-amount-requires
+read-amount-requires c κs = (search needs, search volume-stands)
+
+sub-read-amount-2 : tie.Need-sub-read-amount-2
+sub-read-amount-2 c = search needs
+
+part-read-amount-start-2 : tie.Need-part-read-amount-start-2
+part-read-amount-start-2 c = search needs
+
+part-read-amount-end-2 : tie.Need-part-read-amount-end-2
+part-read-amount-end-2 c = search needs
+
+read-amount-requires-2 : tie.Need-read-amount-requires-2
+read-amount-requires-2 c κs = (search needs, search n-stands)
 
 sub-read-number : tie.Need-sub-read-number
 sub-read-number c = search needs
@@ -15,65 +55,41 @@ part-read-number-end c = search needs
 read-number-requires : tie.Need-read-number-requires
 read-number-requires c κs = search needs
 
-sub-read-number-2 : tie.Need-sub-read-number-2
-sub-read-number-2 c = search needs
+sub-read-given : tie.Need-sub-read-given
+sub-read-given c = search needs
 
-part-read-number-start-2 : tie.Need-part-read-number-start-2
-part-read-number-start-2 c = search needs
+part-read-given-start : tie.Need-part-read-given-start
+part-read-given-start c = search needs
 
-part-read-number-end-2 : tie.Need-part-read-number-end-2
-part-read-number-end-2 c = search needs
+part-read-given-end : tie.Need-part-read-given-end
+part-read-given-end c = search needs
 
-read-number-requires-2 : tie.Need-read-number-requires-2
-read-number-requires-2 c κs = search needs
+read-given-requires : tie.Need-read-given-requires
+read-given-requires c κs = (search needs, search (needs, field-none))
 
-sub-read-number-3 : tie.Need-sub-read-number-3
-sub-read-number-3 c = search needs
+sub-read-given-2 : tie.Need-sub-read-given-2
+sub-read-given-2 c = search needs
 
-part-read-number-start-3 : tie.Need-part-read-number-start-3
-part-read-number-start-3 c = search needs
+part-read-given-start-2 : tie.Need-part-read-given-start-2
+part-read-given-start-2 c = search needs
 
-part-read-number-end-3 : tie.Need-part-read-number-end-3
-part-read-number-end-3 c = search needs
+part-read-given-end-2 : tie.Need-part-read-given-end-2
+part-read-given-end-2 c = search needs
 
-read-number-requires-3 : tie.Need-read-number-requires-3
-read-number-requires-3 c κs = search needs
+read-given-requires-2 : tie.Need-read-given-requires-2
+read-given-requires-2 c κs = (search needs, search (needs, field-none))
 
-sub-read-number-4 : tie.Need-sub-read-number-4
-sub-read-number-4 c = search needs
+sub-read-given-3 : tie.Need-sub-read-given-3
+sub-read-given-3 c = search needs
 
-part-read-number-start-4 : tie.Need-part-read-number-start-4
-part-read-number-start-4 c = search needs
+part-read-given-start-3 : tie.Need-part-read-given-start-3
+part-read-given-start-3 c = search needs
 
-part-read-number-end-4 : tie.Need-part-read-number-end-4
-part-read-number-end-4 c = search needs
+part-read-given-end-3 : tie.Need-part-read-given-end-3
+part-read-given-end-3 c = search needs
 
-read-number-requires-4 : tie.Need-read-number-requires-4
-read-number-requires-4 c κs = search needs
-
-sub-read-number-5 : tie.Need-sub-read-number-5
-sub-read-number-5 c = search needs
-
-part-read-number-start-5 : tie.Need-part-read-number-start-5
-part-read-number-start-5 c = search needs
-
-part-read-number-end-5 : tie.Need-part-read-number-end-5
-part-read-number-end-5 c = search needs
-
-read-number-requires-5 : tie.Need-read-number-requires-5
-read-number-requires-5 c κs = search needs
-
-sub-read-number-6 : tie.Need-sub-read-number-6
-sub-read-number-6 c = search needs
-
-part-read-number-start-6 : tie.Need-part-read-number-start-6
-part-read-number-start-6 c = search needs
-
-part-read-number-end-6 : tie.Need-part-read-number-end-6
-part-read-number-end-6 c = search needs
-
-read-number-requires-6 : tie.Need-read-number-requires-6
-read-number-requires-6 c κs = search needs
+read-given-requires-3 : tie.Need-read-given-requires-3
+read-given-requires-3 c κs = (search needs, search (needs, field-none))
 
 returns : tie.Need-returns
 returns c = search fields-read depth 40 fits 10000
@@ -82,28 +98,33 @@ pub read-fields-spec : {M : Type 1} → statement M
 read-fields-spec =
     tie.close
     (tie.spec
+    amounts-stand-requires
+    sub-is-blank-part
+    part-is-blank-part-start
+    part-is-blank-part-end
+    is-blank-part-requires
+    sub-read-amount
+    part-read-amount-start
+    part-read-amount-end
+    read-amount-requires
+    sub-read-amount-2
+    part-read-amount-start-2
+    part-read-amount-end-2
+    read-amount-requires-2
     sub-read-number
     part-read-number-start
     part-read-number-end
     read-number-requires
-    sub-read-number-2
-    part-read-number-start-2
-    part-read-number-end-2
-    read-number-requires-2
-    sub-read-number-3
-    part-read-number-start-3
-    part-read-number-end-3
-    read-number-requires-3
-    sub-read-number-4
-    part-read-number-start-4
-    part-read-number-end-4
-    read-number-requires-4
-    sub-read-number-5
-    part-read-number-start-5
-    part-read-number-end-5
-    read-number-requires-5
-    sub-read-number-6
-    part-read-number-start-6
-    part-read-number-end-6
-    read-number-requires-6
+    sub-read-given
+    part-read-given-start
+    part-read-given-end
+    read-given-requires
+    sub-read-given-2
+    part-read-given-start-2
+    part-read-given-end-2
+    read-given-requires-2
+    sub-read-given-3
+    part-read-given-start-3
+    part-read-given-end-3
+    read-given-requires-3
     returns)
