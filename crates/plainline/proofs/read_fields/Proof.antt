@@ -1,4 +1,3 @@
-use mathlib.Core.Path.{refl}
 use Rattle.text.specs.Pick.{pick}
 use Rattle.aligned.specs.Columns.{begins, placed}
 use Rattle.plainline.proofs.Fields.{none-fields, tabled, fields-read}
@@ -65,7 +64,7 @@ read-values-requires c κs = search needs
 
 returns-4 : tie.Need-returns-4
 unfolding tabled begins placed pick
-returns-4 c = search (fields-read, refl) depth 20 fits 5000
+returns-4 c = search fields-read depth 20 fits 5000
 
 pub read-fields-spec : {M : Type 1} → statement M
 read-fields-spec =
