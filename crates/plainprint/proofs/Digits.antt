@@ -1,6 +1,7 @@
 -- Laws of numbers in a line's columns: the digits of n, of its parts, and how many they are. Assumes nothing.
 use Prim.Native.Nat.{ℕ, zero, suc, _+_, _-_, _*_, _/_, _%_, _^_, _≤_, _<_}
-use native.Mathlib.Nat.{pow-succ', div-div-eq-div-mul, mod-eq-sub-mul-div, mod-eq-sub-div-mul, mul-div-mul-right, div-add-mod, mul-assoc, mul-comm, mul-sub, zero-mul, mul-pos, one-le-pow, div-lt-iff-lt-mul, le-div-iff-mul-le}
+use native.Mathlib.Nat.{add-zero, pow-succ', div-div-eq-div-mul, mod-eq-sub-mul-div, mod-eq-sub-div-mul, mul-div-mul-right, div-add-mod, mul-assoc, mul-comm, mul-sub, zero-mul, mul-pos, one-le-pow, div-lt-iff-lt-mul, le-div-iff-mul-le}
+use native.Mathlib.Numerals.{add-one}
 use native.Mathlib.Omega.{arith}
 use mathlib.Core.Path.{_≡_, refl, sym, ap, _∙_}
 use mathlib.Core.Bool.{Bool, true, false}
@@ -8,8 +9,9 @@ use mathlib.Core.List.{List, [], _∷_, _++_, append-assoc, append-nil}
 use lib.ListN.{length}
 use lib.Pow.{pow-add}
 use lib.Seq.{append-snoc}
-use lib.Dec.{eqb, leb}
-use borrow.Author.Tests.{eqb-false, leb-true}
+use lib.Dec.{eqb, leb, ltb}
+use borrow.Author.Tests.{eqb-false, leb-true, lt-ltb, ltb-true, ltb-false}
+use Rattle.text.specs.Pick.{pick}
 use Rattle.text.specs.Reading.{isDigit}
 use Rattle.text.specs.Decimal.{decimal, places}
 use Rattle.text.proofs.Decimal.{decimal-small, decimal-big, length-small, length-big}
@@ -20,13 +22,44 @@ use Rattle.plainline.proofs.Fields.{picked, other-picked, passed, kept}
 
 -- ---- how many digits
 
-pub digits-are : (k w : ℕ) → 10 ^ k ≤ w → w < 10 ^ suc k → length (decimal w) ≡ suc k
+digits-are : (k w : ℕ) → 10 ^ k ≤ w → w < 10 ^ suc k → length (decimal w) ≡ suc k
 digits-are zero w h l = length-small w l
 digits-are (suc k) w h l =
     let a : 10 * 10 ^ k ≤ w = rw (pow-succ' 10 k) at h in
     let b : w < 10 * 10 ^ suc k = rw (pow-succ' 10 (suc k)) at l in
     let o = one-le-pow k 10 (omega arith) in
     length-big w (omega arith) ∙ ap suc (digits-are k (w / 10) (omega arith) (omega arith))
+
+-- 1, and 1 for each of 9, 99, .. to k digits that w is over
+unfoldable limits : ℕ → ℕ → ℕ
+limits zero w = 1
+limits (suc k) w = limits k w + pick (ltb (10 ^ suc k - 1) w) 1 0
+
+all-limits : (k w : ℕ) → 10 ^ k ≤ w → limits k w ≡ suc k
+unfolding limits pick
+all-limits zero w h = refl
+all-limits (suc k) w h =
+    let a : 10 * 10 ^ k ≤ w = rw (pow-succ' 10 k) at h in
+    let o = one-le-pow k 10 (omega arith) in
+    rw (all-limits k w (omega arith), lt-ltb (10 ^ suc k - 1) w (omega (arith, one-le-pow (suc k) 10 (omega arith)))) (add-one (suc k))
+
+limits-are : (k w : ℕ) → w < 10 ^ suc k → length (decimal w) ≡ limits k w
+unfolding limits pick
+limits-are zero w h = length-small w h
+limits-are (suc k) w h = go (ltb (10 ^ suc k - 1) w) refl (limits-are k w)
+  where
+    go : (b : Bool) → ltb (10 ^ suc k - 1) w ≡ b → (w < 10 ^ suc k → length (decimal w) ≡ limits k w) → length (decimal w) ≡ limits (suc k) w
+    go true e ih =
+        let l = ltb-true (10 ^ suc k - 1) w e in
+        let p : 10 ^ suc k ≤ w = omega arith in
+        digits-are (suc k) w p h ∙ sym (all-limits (suc k) w p)
+    go false e ih =
+        let l = ltb-false (10 ^ suc k - 1) w e in
+        ih (omega (arith, one-le-pow (suc k) 10 (omega arith))) ∙ rw e (sym (add-zero (limits k w)))
+
+pub six-limits : (w a b c d e : ℕ) → w < 1000000 → a ≡ pick (ltb 9 w) 1 0 → b ≡ pick (ltb 99 w) 1 0 → c ≡ pick (ltb 999 w) 1 0 → d ≡ pick (ltb 9999 w) 1 0 → e ≡ pick (ltb 99999 w) 1 0 → 1 + a + b + c + d + e ≡ length (decimal w)
+unfolding limits
+six-limits w a b c d e h p q r s t = rw (p, q, r, s, t) (sym (limits-are 5 w h))
 
 -- ---- n in its columns
 
@@ -142,21 +175,21 @@ module _ (n d : ℕ) (h : d ≤ 8) where
   whole-units = ap (λ (k : ℕ). n * 10 ^ (8 - d) / k) scale ∙ mul-div-mul-right n (10 ^ d) some
 
   -- what is left of a dollar, by value
-  pub cents-units : n * 10 ^ (8 - d) % 100000000 ≡ n % 10 ^ d * 10 ^ (8 - d)
-  cents-units =
+  pub fraction-units : n * 10 ^ (8 - d) % 100000000 ≡ n % 10 ^ d * 10 ^ (8 - d)
+  fraction-units =
       let m : ℕ = 10 ^ (8 - d) in
       let k : ℕ = 10 ^ d in
       ap (λ (j : ℕ). n * m % j) scale ∙ (mod-eq-sub-div-mul (n * m) (k * m) ∙ rw (mul-div-mul-right n k some, ← mul-assoc (n / k) k m, mod-eq-sub-div-mul n k) (sym (sub-mul n (n / k * k) m)))
 
-  pub no-cents : n * 10 ^ (8 - d) % 100000000 ≡ 0 → n % 10 ^ d ≡ 0
-  no-cents e = go (n % 10 ^ d) (sym cents-units ∙ e)
+  pub zero-fraction : n * 10 ^ (8 - d) % 100000000 ≡ 0 → n % 10 ^ d ≡ 0
+  zero-fraction e = go (n % 10 ^ d) (sym fraction-units ∙ e)
     where
       go : (f : ℕ) → f * 10 ^ (8 - d) ≡ 0 → f ≡ 0
       go zero q = refl
       go (suc f) q = absurd (omega (arith, mul-pos {m = suc f} {n = 10 ^ (8 - d)} (omega arith) some))
 
-  pub some-cents : (n * 10 ^ (8 - d) % 100000000 ≡ 0 → ⊥) → n % 10 ^ d ≡ 0 → ⊥
-  some-cents z e = z (cents-units ∙ rw e (zero-mul (10 ^ (8 - d))))
+  pub nonzero-fraction : (n * 10 ^ (8 - d) % 100000000 ≡ 0 → ⊥) → n % 10 ^ d ≡ 0 → ⊥
+  nonzero-fraction z e = z (fraction-units ∙ rw e (zero-mul (10 ^ (8 - d))))
 
   -- a whole part below a million, and one from 1 up
   pub whole-below : n < 10 ^ (6 + d) → n / 10 ^ d < 1000000

@@ -1,14 +1,16 @@
 -- Laws of a field's text and of the letter dot before it. Assumes nothing.
-use Prim.Native.Nat.{ℕ, _+_, _-_, _≤_, _<_}
-use native.Mathlib.Nat.{not-suc-le-zero}
+use Prim.Native.Nat.{ℕ, suc, _+_, _-_, _*_, _≤_, _<_}
+use native.Mathlib.Nat.{not-suc-le-zero, zero-mul, mul-le-mul}
 use native.Mathlib.Omega.{arith}
-use mathlib.Core.Path.{_≡_, refl}
-use mathlib.Core.Bool.{Bool, true, false, not}
+use mathlib.Core.Path.{_≡_, refl, ap, _∙_}
+use mathlib.Core.Bool.{Bool, true, false, _||_, not}
 use mathlib.Core.List.{List, [], _∷_, _++_}
-use lib.ListN.{length, getD, take, drop, set, length-drop, length-set, take-append-drop}
-use lib.Seq.{length-take-le}
+use lib.ListN.{length, getD, take, drop, set, length-drop, length-set, take-append-drop, drop-of-length-le}
+use lib.Seq.{length-take-le, drop-cons}
 use lib.Dec.{eqb}
-use borrow.Author.Tests.{eq-eqb, ne-eqb, eqb-true, eqb-false, not-true, not-false}
+use borrow.Author.Tests.{eqb-true, eqb-false, not-true, not-false}
+use mir.Syntax.{w64}
+use mir.Val.{Fits}
 use Rattle.text.specs.Bytes.{bytes}
 use Rattle.text.specs.Pick.{pick, opt, among}
 use Rattle.text.specs.Put.{Written}
@@ -19,38 +21,38 @@ use Rattle.rules.specs.Names.{partText, nameText}
 use Rattle.rules.specs.Day.{showsTemporary}
 use Rattle.words.specs.Word.{WordOf}
 use Rattle.rules.proofs.Fields.{word-blank, word-byte}
-use Rattle.words.proofs.Fields.{passed, at-blank, at-end}
+use Rattle.words.proofs.Fields.{word-nothing}
 use Rattle.plainprint.specs.Laid.{Laid}
 use Rattle.plainprint.specs.Print.{dotText}
 use Rattle.plainprint.proofs.Layers.{laid-written, laid-nothing, laid-named, laid-front, laid-then}
 
 -- ---- the text at a field's left
 
--- i columns are looked at, and n of them are the text so far, or all of it once a blank came
-pub data Counted : List ℕ → ℕ → ℕ → ℕ → Type 0 where
-  on : {s : List ℕ} {i : ℕ} → word s ≡ take i s ++ word (drop i s) → Counted s i i 1
-  over : {s : List ℕ} {i n : ℕ} → WordOf s n → Counted s i n 0
+-- the columns from i on are looked at, and their text ends before column n
+module _ (s : List ℕ) where
+  pub from-end : WordOf (drop (length s) s) (length s - length s)
+  from-end =
+      let q : length s - length s ≡ 0 = omega arith in
+      rw (q, drop-of-length-le s {i = length s} (omega arith)) (record { count-is = rw word-nothing; within = omega arith; text-is = word-nothing })
 
-pub counted-none : (s : List ℕ) → Counted s 0 0 1
-counted-none s = on refl
+  module _ (i n : ℕ) (k : 0 < i) (l : i ≤ n) (h : n ≤ length s) where
+    one-more : drop (i - 1) s ≡ getD s (i - 1) 0 ∷ drop i s
+    one-more = let q : suc (i - 1) ≡ i = omega arith in drop-cons s (i - 1) 0 (omega arith) ∙ rw q
 
-pub counted-blank : {s : List ℕ} {i n step next : ℕ} → Counted s i n step → i < length s → getD s i 0 ≡ 32 → next ≡ 0 → Counted s (i + 1) (n + next) next
-counted-blank {s} {i} {n} {step} {next} t h b e = let q : n + next ≡ n = omega arith in rw (q, e) (over (blank t))
-  where
-    blank : {n step : ℕ} → Counted s i n step → WordOf s n
-    blank (on e) = at-blank s i e h b
-    blank (over w) = w
+    pub from-blank : getD s (i - 1) 0 ≡ 32 → WordOf (drop (i - 1) s) (i - 1 - (i - 1))
+    from-blank b =
+        let q : i - 1 - (i - 1) ≡ 0 = omega arith in
+        let e = word-blank (getD s (i - 1) 0) (drop i s) b in
+        rw (q, one-more) (record { count-is = rw e; within = omega arith; text-is = e })
 
-pub counted-byte : {s : List ℕ} {i n step next : ℕ} → Counted s i n step → i < length s → (getD s i 0 ≡ 32 → ⊥) → next ≡ step → Counted s (i + 1) (n + next) next
-counted-byte {s} {i} {n} {step} {next} t h b e = rw e (byte t)
-  where
-    byte : {n step : ℕ} → Counted s i n step → Counted s (i + 1) (n + step) step
-    byte (on e) = on (passed s i e h b)
-    byte {n} (over w) = let q : n + 0 ≡ n = omega arith in rw q (over w)
+    pub from-byte : WordOf (drop i s) (n - i) → (getD s (i - 1) 0 ≡ 32 → ⊥) → WordOf (drop (i - 1) s) (n - (i - 1))
+    from-byte w b =
+        let q : n - (i - 1) ≡ suc (n - i) = omega arith in
+        let e = word-byte (getD s (i - 1) 0) (drop i s) b in
+        rw (q, one-more) (record { count-is = rw e (ap suc (w .count-is)); within = omega (arith, w .within); text-is = e ∙ ap (λ (t : List ℕ). getD s (i - 1) 0 ∷ t) (w .text-is) })
 
-pub counted-all : {s : List ℕ} {i n step : ℕ} → Counted s i n step → length s ≤ i → i ≤ length s → WordOf s n
-counted-all {s} {i} (on e) h k = at-end s i e h k
-counted-all (over w) h k = w
+  pub from-start : (i n : ℕ) → WordOf (drop i s) (n - i) → i ≤ 0 → WordOf s n
+  from-start i n w h = let q : i ≡ 0 = omega arith in let m : n - 0 ≡ n = omega arith in rw (q, m) at w
 
 pub laid-word : {s b a : List ℕ} {m n : ℕ} → Written s b a m → WordOf s n → Laid (word s) b a n
 laid-word {s} {b} {a} {m} {n} w h =
@@ -59,29 +61,32 @@ laid-word {s} {b} {a} {m} {n} w h =
 
 -- ---- the letter dot
 
-pub no-dot : (b : ℕ) → b ≡ 32 → 0 ≡ length (dotText b)
-unfolding dotText pick
-no-dot b h = rw (eq-eqb b 32 h)
+-- 0 where either test holds
+pub flags : (x y : ℕ) (p q : Bool) → x ≡ pick p 0 1 → y ≡ pick q 0 1 → x * y ≡ pick (p || q) 0 1
+unfolding pick
+flags x y p q e f = rw (e, f) (go p q)
+  where
+    go : (p q : Bool) → pick p 0 1 * pick q 0 1 ≡ pick (p || q) 0 1
+    go true q = zero-mul (pick q 0 1)
+    go false true = refl
+    go false false = refl
 
-raised-dot : (b : ℕ) → (b ≡ 32 → ⊥) → isRaised b ≡ true → 0 ≡ length (dotText b)
-unfolding dotText pick opt
-raised-dot b z h = rw (ne-eqb b 32 z, h)
+pub flags-most : (x y : ℕ) → x ≤ 1 → y ≤ 1 → x * y ≤ 1
+flags-most x y h k = mul-le-mul h k
 
-pub raised-p : (b : ℕ) → (b ≡ 32 → ⊥) → b ≡ 112 → 0 ≡ length (dotText b)
-unfolding isRaised among
-raised-p b z h = raised-dot b z (rw h)
+pub flags-fit : (x y : ℕ) → x ≤ 1 → y ≤ 1 → Fits w64 (x * y)
+flags-fit x y h k = let l = flags-most x y h k in omega arith
 
-pub raised-r : (b : ℕ) → (b ≡ 32 → ⊥) → b ≡ 114 → 0 ≡ length (dotText b)
-unfolding isRaised among
-raised-r b z h = raised-dot b z (rw h)
-
-pub raised-w : (b : ℕ) → (b ≡ 32 → ⊥) → b ≡ 119 → 0 ≡ length (dotText b)
-unfolding isRaised among
-raised-w b z h = raised-dot b z (rw h)
-
-pub letter-dot : (b : ℕ) → (b ≡ 32 → ⊥) → (b ≡ 112 → ⊥) → (b ≡ 114 → ⊥) → (b ≡ 119 → ⊥) → 1 ≡ length (dotText b)
+pub dot-length : (b : ℕ) (r : ℕ) → r ≡ pick (((eqb b 32 || eqb b 112) || eqb b 114) || eqb b 119) 0 1 → r ≡ length (dotText b)
 unfolding dotText pick opt isRaised among
-letter-dot b z p r w = rw (ne-eqb b 32 z, ne-eqb b 112 p, ne-eqb b 114 r, ne-eqb b 119 w)
+dot-length b r e = e ∙ go (eqb b 32) (eqb b 112) (eqb b 114) (eqb b 119)
+  where
+    go : (x p r w : Bool) → pick (((x || p) || r) || w) 0 1 ≡ length (pick x [] (opt (not (p || (r || (w || false)))) (bytes ".")))
+    go true p r w = refl
+    go false true r w = refl
+    go false false true w = refl
+    go false false false true = refl
+    go false false false false = refl
 
 -- the dot and the text are the part
 part-dot : (s : List ℕ) → 1 ≤ length s → partText (word s) ≡ dotText (getD s 0 0) ++ word s

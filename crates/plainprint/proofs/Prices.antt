@@ -20,7 +20,7 @@ use Rattle.trade.proofs.Short.{price-most}
 use Rattle.plainprint.specs.Laid.{Laid}
 use Rattle.plainprint.specs.Print.{Columned}
 use Rattle.plainprint.proofs.Layers.{laid-named, laid-front, laid-then, laid-byte, laid-part, laid-room}
-use Rattle.plainprint.proofs.Digits.{Ends, number-ends, decimal-parts, places-mod, no-cents, some-cents, whole-below, whole-from}
+use Rattle.plainprint.proofs.Digits.{Ends, number-ends, decimal-parts, places-mod, zero-fraction, nonzero-fraction, whole-below, whole-from}
 
 -- ---- dollars
 
@@ -60,7 +60,7 @@ cut-out s x w f t d k e l m i j =
 regroup : (s t u v x y w f : List ℕ) → t ++ v ≡ s → t ≡ x ++ u → u ≡ (y ++ w) ++ f → s ≡ ((x ++ y) ++ w) ++ (f ++ v)
 regroup s t u v x y w f a b c = sym a ∙ rw (b, c) (simp append-assoc)
 
--- ---- cents
+-- ---- the fraction
 
 no-fraction : (t : List ℕ) (d f : ℕ) → f ≡ 0 → t ++ fractionText d f ≡ t
 unfolding fractionText pick
@@ -72,9 +72,9 @@ some-fraction t d f z = rw (ne-eqb f 0 z) (sym (append-assoc t (bytes ",") (plac
 
 -- ---- k columns, figure dot, d columns
 
-module _ (s b xs : List ℕ) (k d m : ℕ) (v : Written (take (14 - d - k + 6 - (14 - d - k)) (drop (14 - d - k) s)) b xs m) (l : length s ≡ 22) (i : k ≤ 6) (j : d ≤ 8) (h : 15 ≤ length b) where
+module _ (s b xs : List ℕ) (k d m : ℕ) (v : Written (take (14 - d - k + 8 - (14 - d - k)) (drop (14 - d - k) s)) b xs m) (l : length s ≡ 22) (i : k ≤ 6) (j : d ≤ 8) (h : 15 ≤ length b) where
   dotted : Laid (take k (drop (14 - d - k) s) ++ bytes ",") b (set xs k 44) (k + 1)
-  dotted = laid-byte 44 (laid-part s (14 - d - k) k 6 v i (omega arith)) (omega arith)
+  dotted = laid-byte 44 (laid-part s (14 - d - k) k 8 v (omega arith) (omega arith)) (omega arith)
 
   pub columns-room : length (take (14 - d + 8 - (14 - d)) (drop (14 - d) s)) ≤ length (take (length (set xs k 44) - (k + 1)) (drop (k + 1) (set xs k 44)))
   columns-room =
@@ -137,11 +137,11 @@ module _ (columns : List ℕ) (price : Price) (value whole : ℕ) (h : Columned 
       pub laid-even : value % 100000000 ≡ 0 → Laid (priceText full price) b a k
       unfolding units
       laid-even c =
-          let f : n % 10 ^ d ≡ 0 = no-cents n d (h .sound .decimals) (ap (λ (v : ℕ). v % 100000000) (sym (h .value-is)) ∙ c) in
+          let f : n % 10 ^ d ≡ 0 = zero-fraction n d (h .sound .decimals) (ap (λ (v : ℕ). v % 100000000) (sym (h .value-is)) ∙ c) in
           laid-named (price-is ∙ no-fraction (dollars full whole) d _ f) (laid-front (dollars full whole) (bytes "," ++ places d n) k (laid-named (sym (text-is ∙ append-assoc (dollars full whole) (bytes ",") (places d n))) w) e)
 
-      pub laid-cents : (value % 100000000 ≡ 0 → ⊥) → Laid (priceText full price) b a r
+      pub laid-fraction : (value % 100000000 ≡ 0 → ⊥) → Laid (priceText full price) b a r
       unfolding units
-      laid-cents c =
-          let f : n % 10 ^ d ≡ 0 → ⊥ = some-cents n d (h .sound .decimals) (λ q. c (ap (λ (v : ℕ). v % 100000000) (h .value-is) ∙ q)) in
+      laid-fraction c =
+          let f : n % 10 ^ d ≡ 0 → ⊥ = nonzero-fraction n d (h .sound .decimals) (λ q. c (ap (λ (v : ℕ). v % 100000000) (h .value-is) ∙ q)) in
           laid-named (price-is ∙ (some-fraction (dollars full whole) d _ f ∙ rw (places-mod d n) (sym text-is))) w

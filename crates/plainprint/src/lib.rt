@@ -5,6 +5,7 @@ use rules::Security;
 ghost use mathlib.Core.Path.{_≡_};
 ghost use mathlib.Core.List.{_++_};
 ghost use Prim.Native.Nat.{_+_, _-_, _≤_, _<_};
+ghost use lib.Dec.{eqb, ltb};
 ghost use lib.ListN.{length, take, drop};
 ghost use Rattle.text.specs.Bytes.{bytes};
 ghost use Rattle.text.specs.Pick.{pick, opt};
@@ -19,40 +20,36 @@ ghost use Rattle.plainprint.specs.Print.{plainText, dotText, Columned};
 
 // ---- the name
 
-// The length of the text at a field's left, up to the first blank: every column is looked at.
+// The length of the text at a field's left, up to the first blank: every column is looked at, the last first.
 fn word_size(field: &[u8]) -> usize
     ensures { λ r. ⌜ WordOf (now (field .entry)) r ⌝ }
 {
-    let mut n: usize = 0;
-    let mut step: usize = 1;
-    let mut i = 0;
-    while i < field.len() {
+    let mut n = field.len();
+    let mut i = field.len();
+    while 0 < i {
+        i -= 1;
         if field[i] == 32 {
-            step = 0;
+            n = i;
         }
-        n += step;
-        i += 1;
     }
     n
+}
+
+// 0 where two bytes are the same, 1 otherwise.
+fn unlike(a: u8, b: u8) -> usize
+    ensures { λ r. ⌜ (r ≡ pick (eqb a b) 0 1) × (r ≤ 1) ⌝ }
+{
+    if a == b {
+        return 0;
+    }
+    1
 }
 
 // 1 where a part that begins with this byte has a letter dot before it: not a blank, not a raised letter.
 fn dot_size(b: u8) -> usize
     ensures { λ r. ⌜ (r ≡ length (dotText b)) × (r ≤ 1) ⌝ }
 {
-    if b == 32 {
-        return 0;
-    }
-    if b == b'p' {
-        return 0;
-    }
-    if b == b'r' {
-        return 0;
-    }
-    if b == b'w' {
-        return 0;
-    }
-    1
+    unlike(b, 32) * unlike(b, b'p') * unlike(b, b'r') * unlike(b, b'w')
 }
 
 // Every column is laid; the text is their front.
@@ -101,27 +98,22 @@ fn lay_name(rest: &mut [u8], name: &[u8], temporary: bool) -> usize
 
 // ---- the price
 
-// The digits of a whole part from 1 to 999,999.
+// 1 where a number is over a limit.
+fn over(limit: u64, w: u64) -> usize
+    ensures { λ r. ⌜ (r ≡ pick (ltb limit w) 1 0) × (r ≤ 1) ⌝ }
+{
+    if limit < w {
+        return 1;
+    }
+    0
+}
+
+// The digits of a whole part up to 999,999.
 fn whole_size(w: u64) -> usize
     requires { ⌜ w < 1000000 ⌝ }
     ensures { λ r. ⌜ (r ≡ length (decimal w)) × (1 ≤ r) × (r ≤ 6) ⌝ }
 {
-    if w < 10 {
-        return 1;
-    }
-    if w < 100 {
-        return 2;
-    }
-    if w < 1000 {
-        return 3;
-    }
-    if w < 10000 {
-        return 4;
-    }
-    if w < 100000 {
-        return 5;
-    }
-    6
+    1 + over(9, w) + over(99, w) + over(999, w) + over(9999, w) + over(99999, w)
 }
 
 // The columns of the dollars that are printed.
@@ -135,14 +127,14 @@ fn dollars_size(full: bool, w: u64) -> usize
     1
 }
 
-// k columns of dollars, figure dot, d columns of cents: n ends in column 14.
+// k columns of dollars, figure dot, d columns of the fraction: n ends in column 14.
 fn lay_columns(rest: &mut [u8], columns: &[u8], k: usize, d: usize) -> usize
     requires { ⌜ (length (now columns) ≡ 22) × (k ≤ 6) × (d ≤ 8) × (15 ≤ length (now rest)) ⌝ }
     ensures { λ r. ⌜ Laid (take k (drop (14 - d - k) (now (columns .entry))) ++ bytes "," ++ take d (drop (14 - d) (now (columns .entry)))) (now (rest .entry)) (now (rest .exit)) r ⌝ }
 {
     let point = 14 - d;
     let from = point - k;
-    let to = from + 6;
+    let to = from + 8;
     text::write_bytes(rest, &columns[from..to]);
     rest[k] = b',';
     let j = k + 1;
@@ -169,7 +161,7 @@ fn lay_price(
     let k = dollars_size(full, whole);
     let m = lay_columns(rest, columns, k, price.d as usize);
     if value % 100000000 == 0 {
-        return k; // no cents
+        return k; // the fraction is zero
     }
     m
 }

@@ -1,22 +1,41 @@
-use native.Mathlib.Omega.{arith}
-use Rattle.plainprint.proofs.Names.{no-dot, raised-p, raised-r, raised-w, letter-dot}
+use borrow.Author.Needs.{needs}
+use Rattle.plainprint.proofs.Names.{flags, flags-fit, flags-most, dot-length}
 use Rattle.plainprint.proofs.dot_size.Statement.{statement}
 use Rattle.plainprint.proofs.dot_size.Tie as tie
 
+unlike-requires : tie.Need-unlike-requires
+unlike-requires c κs = search needs
+
+unlike-requires-2 : tie.Need-unlike-requires-2
+unlike-requires-2 c κs = search needs
+
+mul-result : tie.Need-mul-result
+mul-result c = search flags-fit
+
+unlike-requires-3 : tie.Need-unlike-requires-3
+unlike-requires-3 c κs = search needs
+
+mul-result-2 : tie.Need-mul-result-2
+mul-result-2 c = search (flags-fit, flags-most)
+
+unlike-requires-4 : tie.Need-unlike-requires-4
+unlike-requires-4 c κs = search needs
+
+mul-result-3 : tie.Need-mul-result-3
+mul-result-3 c = search (flags-fit, flags-most)
+
 returns : tie.Need-returns
-returns c = (search no-dot, omega arith)
-
-returns-2 : tie.Need-returns-2
-returns-2 c = (search raised-p, omega arith)
-
-returns-3 : tie.Need-returns-3
-returns-3 c = (search raised-r, omega arith)
-
-returns-4 : tie.Need-returns-4
-returns-4 c = (search raised-w, omega arith)
-
-returns-5 : tie.Need-returns-5
-returns-5 c = (search letter-dot, omega arith)
+returns c = (search (dot-length, flags), search flags-most)
 
 pub dot-size-spec : {M : Type 1} → statement M
-dot-size-spec = tie.close (tie.spec returns returns-2 returns-3 returns-4 returns-5)
+dot-size-spec =
+    tie.close
+    (tie.spec
+    unlike-requires
+    unlike-requires-2
+    mul-result
+    unlike-requires-3
+    mul-result-2
+    unlike-requires-4
+    mul-result-3
+    returns)

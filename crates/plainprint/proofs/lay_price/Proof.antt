@@ -1,5 +1,5 @@
 use Rattle.plainprint.proofs.Layers.{laid-written}
-use Rattle.plainprint.proofs.Prices.{whole-small, price-room, laid-even, laid-cents}
+use Rattle.plainprint.proofs.Prices.{whole-small, price-room, laid-even, laid-fraction}
 use borrow.Author.Needs.{needs}
 use Rattle.plainprint.proofs.lay_price.Statement.{statement}
 use Rattle.plainprint.proofs.lay_price.Tie as tie
@@ -29,7 +29,7 @@ same-length-3 : tie.Need-same-length-3
 same-length-3 c = search needs
 
 returns-3 : tie.Need-returns-3
-returns-3 c = search laid-cents
+returns-3 c = search laid-fraction
 
 pub lay-price-spec : {M : Type 1} → statement M
 lay-price-spec =

@@ -1,27 +1,54 @@
-use mathlib.Core.Path.{sym}
+use borrow.Author.Needs.{needs}
 use native.Mathlib.Omega.{arith}
-use Rattle.text.proofs.Decimal.{length-small}
-use Rattle.plainprint.proofs.Digits.{digits-are}
+use Rattle.plainprint.proofs.Digits.{six-limits}
 use Rattle.plainprint.proofs.whole_size.Statement.{statement}
 use Rattle.plainprint.proofs.whole_size.Tie as tie
 
+over-requires : tie.Need-over-requires
+over-requires c κs = search needs
+
+add-result : tie.Need-add-result
+add-result c = search needs
+
+over-requires-2 : tie.Need-over-requires-2
+over-requires-2 c κs = search needs
+
+add-result-2 : tie.Need-add-result-2
+add-result-2 c = search needs
+
+over-requires-3 : tie.Need-over-requires-3
+over-requires-3 c κs = search needs
+
+add-result-3 : tie.Need-add-result-3
+add-result-3 c = search needs
+
+over-requires-4 : tie.Need-over-requires-4
+over-requires-4 c κs = search needs
+
+add-result-4 : tie.Need-add-result-4
+add-result-4 c = search needs
+
+over-requires-5 : tie.Need-over-requires-5
+over-requires-5 c κs = search needs
+
+add-result-5 : tie.Need-add-result-5
+add-result-5 c = search needs
+
 returns : tie.Need-returns
-returns c = (sym (length-small _ (omega arith)), omega arith, omega arith)
-
-returns-2 : tie.Need-returns-2
-returns-2 c = (sym (digits-are 1 _ (omega arith) (omega arith)), omega arith, omega arith)
-
-returns-3 : tie.Need-returns-3
-returns-3 c = (sym (digits-are 2 _ (omega arith) (omega arith)), omega arith, omega arith)
-
-returns-4 : tie.Need-returns-4
-returns-4 c = (sym (digits-are 3 _ (omega arith) (omega arith)), omega arith, omega arith)
-
-returns-5 : tie.Need-returns-5
-returns-5 c = (sym (digits-are 4 _ (omega arith) (omega arith)), omega arith, omega arith)
-
-returns-6 : tie.Need-returns-6
-returns-6 c = (sym (digits-are 5 _ (omega arith) (omega arith)), omega arith, omega arith)
+returns c = (search six-limits, omega arith, omega arith)
 
 pub whole-size-spec : {M : Type 1} → statement M
-whole-size-spec = tie.close (tie.spec returns returns-2 returns-3 returns-4 returns-5 returns-6)
+whole-size-spec =
+    tie.close
+    (tie.spec
+    over-requires
+    add-result
+    over-requires-2
+    add-result-2
+    over-requires-3
+    add-result-3
+    over-requires-4
+    add-result-4
+    over-requires-5
+    add-result-5
+    returns)
