@@ -1,18 +1,16 @@
 -- The print of a trade of a volume and a price alone, and what its price is laid from. Assumes nothing.
 use Prim.Native.Nat.{ℕ}
 use mathlib.Core.Path.{_≡_}
-use mathlib.Core.Bool.{Bool, not}
+use mathlib.Core.Bool.{Bool}
 use mathlib.Core.List.{List, [], _++_}
 use lib.Dec.{eqb}
 use lib.ListN.{length, take}
-use Rattle.text.specs.Bytes.{bytes}
 use Rattle.text.specs.Pick.{pick, opt}
 use Rattle.rules.specs.declared.Number.the-variants.{Is}
 use Rattle.rules.specs.declared.Price.{Price}
 use Rattle.rules.specs.declared.Security.{Security}
-use Rattle.rules.specs.Tape.{isRaised}
 use Rattle.rules.specs.Columns.{numberIn}
-use Rattle.rules.specs.Names.{nameText}
+use Rattle.rules.specs.Names.{letterDot, nameText}
 use Rattle.rules.specs.Volume.{volumeText}
 use Rattle.rules.specs.Price.{wholePart, units, priceText}
 use Rattle.rules.specs.Day.{showsTemporary}
@@ -22,9 +20,9 @@ use Rattle.prices.specs.Sound.{Sound}
 unfoldable pub plainText : List ℕ → Security → Bool → Bool → ℕ → Price → List ℕ
 plainText name s full shows volume price = nameText (showsTemporary s) name ++ opt shows (volumeText (s .network) (s .unit) volume) ++ priceText full price
 
--- the letter dot before a part that begins with this byte
+-- the letter dot of the part in a field that begins with this byte: a blank part has none
 unfoldable pub dotText : ℕ → List ℕ
-dotText b = pick (eqb b 32) [] (opt (not (isRaised b)) (bytes "."))
+dotText b = pick (eqb b 32) [] (letterDot b)
 
 -- the price in the line's columns, n in the first 14, and its value and whole part
 pub record Columned (columns : List ℕ) (price : Price) (value whole : ℕ) : Type 0 where

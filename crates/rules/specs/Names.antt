@@ -25,9 +25,12 @@ abbrev pub appendageField : List ℕ → List ℕ
 appendageField name = take 2 (drop 17 name)
 
 -- each part after the root has a letter dot before it, unless it begins with p, r or w; a blank part has none
+abbrev pub letterDot : ℕ → List ℕ
+letterDot c = opt (not (isRaised c)) (bytes ".")
+
 unfoldable pub partText : List ℕ → List ℕ
 partText [] = []
-partText (c ∷ s) = opt (not (isRaised c)) (bytes ".") ++ (c ∷ s)
+partText (c ∷ s) = letterDot c ++ (c ∷ s)
 
 -- name = root, suffix, temporary suffix (where it is shown), appendage
 unfoldable pub nameText : Bool → List ℕ → List ℕ
