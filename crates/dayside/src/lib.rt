@@ -8,7 +8,7 @@ ghost use mathlib.Core.Path.{_≡_};
 ghost use Prim.Native.Nat.{_≤_};
 ghost use mathlib.Core.Bool.{true, _&&_};
 ghost use lib.ListN.{length};
-ghost use Rattle.rules.specs.Columns.{blank, numberIn, isNumber};
+ghost use Rattle.rules.specs.Columns.{columns, blank, numberIn, isNumber};
 ghost use Rattle.rules.specs.Line.{alike};
 ghost use Rattle.aligned.specs.Columns.{stands};
 ghost use Rattle.dayside.specs.Side.{amountsStand, sideFields, lettersRead, sideRead};
@@ -78,12 +78,23 @@ fn read_given(field: &[u8], none: bool) -> Number
     numbers::read_number(field)
 }
 
+// Days and previous last are blank: sixteen columns at once, and two.
+fn is_blank_end(part: &[u8]) -> bool
+    requires { ⌜ length (now part) ≡ 46 ⌝ }
+    ensures { λ r. ⌜ r ≡ blank (columns 29 46 (now (part .entry))) ⌝ }
+{
+    if !field::is_blank_part(&part[28..44]) {
+        return false;
+    }
+    field::is_blank_part(&part[44..46])
+}
+
 fn read_fields(part: &[u8]) -> SideFields
     requires { ⌜ length (now part) ≡ 46 ⌝ }
     ensures { λ r. ⌜ r ≡ sideFields (now (part .entry)) ⌝ }
 {
     let known = amounts_stand(part);
-    let none = field::is_blank_part(&part[28..46]);
+    let none = is_blank_end(part);
     SideFields {
         volume: read_amount(&part[0..9], known),
         n: read_amount(&part[9..23], known),

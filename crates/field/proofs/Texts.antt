@@ -71,7 +71,7 @@ module _ (s : List ℕ) (marks i : ℕ) (so : (eqb marks 0 && blank (drop i s)) 
   blank-passed h = passed isBlank s marks i so h
 
 -- a text passes if its front and the rest of it do
-all-split : (p : ℕ → Bool) (k : ℕ) (s : List ℕ) → (all p (take k s) && all p (drop k s)) ≡ all p s
+pub all-split : (p : ℕ → Bool) (k : ℕ) (s : List ℕ) → (all p (take k s) && all p (drop k s)) ≡ all p s
 unfolding all
 all-split p zero s = refl
 all-split p (suc k) [] = refl

@@ -7,17 +7,8 @@ use Rattle.dayside.proofs.read_fields.Tie as tie
 amounts-stand-requires : tie.Need-amounts-stand-requires
 amounts-stand-requires c κs = search needs
 
-sub-is-blank-part : tie.Need-sub-is-blank-part
-sub-is-blank-part c = search needs
-
-part-is-blank-part-start : tie.Need-part-is-blank-part-start
-part-is-blank-part-start c = search needs
-
-part-is-blank-part-end : tie.Need-part-is-blank-part-end
-part-is-blank-part-end c = search needs
-
-is-blank-part-requires : tie.Need-is-blank-part-requires
-is-blank-part-requires c κs = search needs
+is-blank-end-requires : tie.Need-is-blank-end-requires
+is-blank-end-requires c κs = search needs
 
 sub-read-amount : tie.Need-sub-read-amount
 sub-read-amount c = search needs
@@ -99,10 +90,7 @@ read-fields-spec =
     tie.close
     (tie.spec
     amounts-stand-requires
-    sub-is-blank-part
-    part-is-blank-part-start
-    part-is-blank-part-end
-    is-blank-part-requires
+    is-blank-end-requires
     sub-read-amount
     part-read-amount-start
     part-read-amount-end
