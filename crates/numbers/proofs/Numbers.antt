@@ -1,12 +1,13 @@
 -- Laws of number fields and of what stands in them, in the form that the needs have: `search` finds their premises. Assumes nothing.
 use Prim.Native.Nat.{ℕ, zero, suc, _+_, _-_, _*_, _/_, _%_, _^_, _≤_, _<_}
-use native.Mathlib.Nat.{pow-suc, pow-le-pow-right, le-antisymm}
+use native.Mathlib.Nat.{pow-suc, pow-le-pow-right}
 use native.Mathlib.Numerals.{add-one}
 use native.Mathlib.Omega.{arith}
 use mathlib.Core.Path.{_≡_, refl, sym, ap, _∙_}
 use mathlib.Core.Bool.{Bool, true, false, not}
 use mathlib.Core.List.{List, [], _∷_}
 use lib.ListN.{length, getD, take, drop, drop-of-length-le, length-drop}
+use lib.Pow.{pow-add}
 use lib.Seq.{drop-cons, take-all}
 use lib.Dec.{leb, ltb}
 use borrow.Author.Tests.{lt-leb, le-leb, eq-eqb, ne-eqb, not-false}
@@ -162,18 +163,16 @@ pub ruleset previous = (previous-blank, previous-n-blank, previous-bad, previous
 
 -- ---- prices
 
-over-3 : (k : ℕ) → (k ≡ 0 → ⊥) → (k ≡ 1 → ⊥) → (k ≡ 2 → ⊥) → (k ≡ 3 → ⊥) → 4 ≤ k
-over-3 k a b c d = omega arith
+-- ten to the power 6 + d, and that it fits
+million-of : (d r : ℕ) → r ≡ 10 ^ d → 1000000 * r ≡ 10 ^ (6 + d)
+million-of d r e = rw (e, pow-add 10 6 d)
 
-over-7 : (k : ℕ) → 4 ≤ k → (k ≡ 4 → ⊥) → (k ≡ 5 → ⊥) → (k ≡ 6 → ⊥) → (k ≡ 7 → ⊥) → 8 ≤ k
-over-7 k h a b c d = omega arith
+pub price-fits : (d r : ℕ) → d ≤ 8 → r ≡ 10 ^ d → 1000000 * r < 2 ^ 64
+price-fits d r h e = let m : 10 ^ d ≤ 10 ^ 8 = pow-le-pow-right (omega arith) h in omega (arith, e, m)
 
-pub last-power : (k : ℕ) → k ≤ 8 → (k ≡ 0 → ⊥) → (k ≡ 1 → ⊥) → (k ≡ 2 → ⊥) → (k ≡ 3 → ⊥) → (k ≡ 4 → ⊥) → (k ≡ 5 → ⊥) → (k ≡ 6 → ⊥) → (k ≡ 7 → ⊥) → 100000000000000 ≡ 10 ^ (6 + k)
-last-power k h a b c d e f g i = rw (le-antisymm h (over-7 k (over-3 k a b c d) e f g i))
-
-pub price-last : (n d r : ℕ) → 1 ≤ n → d ≤ 8 → r ≡ 10 ^ (6 + d) → ltb n r ≡ isPrice n d
+pub price-last : (n d r : ℕ) → 1 ≤ n → d ≤ 8 → r ≡ 10 ^ d → ltb n (1000000 * r) ≡ isPrice n d
 unfolding isPrice
-price-last n d r h k e = rw (le-leb 1 n h, le-leb d 8 k, e)
+price-last n d r h k e = rw (le-leb 1 n h, le-leb d 8 k, million-of d r e)
 
 -- ---- dates
 

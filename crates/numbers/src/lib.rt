@@ -1,7 +1,7 @@
 // The numbers of a day line's fields: read, and asked whether they are within their values (document 01, Day lines).
 use rules::Number;
 ghost use mathlib.Core.Path.{_≡_};
-ghost use Prim.Native.Nat.{_+_, _≤_, _^_};
+ghost use Prim.Native.Nat.{_≤_};
 ghost use lib.ListN.{length, drop};
 ghost use lib.Dec.{leb};
 ghost use Rattle.rules.specs.Columns.{justified, digitsFrom, numberIn, isNumber, numberOrBlank, valueOf, passes, between, isLeap, daysIn, isDate};
@@ -128,24 +128,6 @@ pub fn is_between(low: u64, high: u64, n: u64) -> bool
 
 // ---- prices
 
-// Ten to the power 6 + d.
-fn power(d: u64) -> u64
-    requires { ⌜ d ≤ 8 ⌝ }
-    ensures { λ r. ⌜ r ≡ 10 ^ (6 + d) ⌝ }
-{
-    match d {
-        0 => 1000000,
-        1 => 10000000,
-        2 => 100000000,
-        3 => 1000000000,
-        4 => 10000000000,
-        5 => 100000000000,
-        6 => 1000000000000,
-        7 => 10000000000000,
-        _ => 100000000000000,
-    }
-}
-
 // n from 1 to below ten to the power 6 + d, d from 0 to 8.
 pub fn is_price(n: u64, d: u64) -> bool
     ensures { λ r. ⌜ r ≡ isPrice n d ⌝ }
@@ -156,7 +138,7 @@ pub fn is_price(n: u64, d: u64) -> bool
     if 8 < d {
         return false;
     }
-    n < power(d)
+    n < 1000000 * prices::power(d)
 }
 
 // The values of a previous last: n has no upper value while its d is blank.

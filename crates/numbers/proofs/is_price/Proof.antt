@@ -1,6 +1,6 @@
 use Rattle.text.proofs.Told.{told}
 use Rattle.rules.specs.Line.{isPrice}
-use Rattle.numbers.proofs.Numbers.{price-last}
+use Rattle.numbers.proofs.Numbers.{price-fits, price-last}
 use borrow.Author.Needs.{needs}
 use Rattle.numbers.proofs.is_price.Statement.{statement}
 use Rattle.numbers.proofs.is_price.Tie as tie
@@ -16,8 +16,11 @@ returns-2 c = search told
 power-requires : tie.Need-power-requires
 power-requires c κs = search needs
 
+mul-result : tie.Need-mul-result
+mul-result c = record { fits = search price-fits }
+
 returns-3 : tie.Need-returns-3
 returns-3 c = search price-last
 
 pub is-price-spec : {M : Type 1} → statement M
-is-price-spec = tie.close (tie.spec returns returns-2 power-requires returns-3)
+is-price-spec = tie.close (tie.spec returns returns-2 power-requires mul-result returns-3)
