@@ -3,7 +3,7 @@ use Prim.Native.Nat.{ℕ, suc, zero, _+_, _*_, _-_, _/_, _%_, _^_, _≤_, _<_}
 use native.Mathlib.Nat.{pow-succ', add-mul, mul-assoc, zero-mul, zero-add}
 use native.Mathlib.Omega.{arith}
 use mathlib.Core.Path.{_≡_, refl, sym, ap, _∙_}
-use mathlib.Core.Bool.{Bool, true, false, _&&_}
+use mathlib.Core.Bool.{Bool, true, false}
 use mathlib.Core.List.{List, [], _∷_}
 use lib.Dec.{eqb}
 use borrow.Author.Tests.{eqb-true, eqb-false}
@@ -15,7 +15,7 @@ use Rattle.rules.specs.Columns.{between}
 use Rattle.rules.specs.Line.{isPrintable}
 use lib.ListN.{length}
 use Rattle.text.proofs.Tests.{is-le}
-use Rattle.text.proofs.Booleans.{nonzero}
+use Rattle.text.proofs.Booleans.{and-both, nonzero}
 use Rattle.compose.specs.Columns.{digitsBefore, numberField, textField, firstOr, later, filledIf}
 
 from-digit : (a q : ℕ) (s : List ℕ) → q < 10 → digitsFrom a ((48 + q) ∷ s) ≡ digitsFrom (a * 10 + q) s
@@ -154,17 +154,14 @@ filled-number false k n h = left-blank (numberField (suc k) n)
 
 -- ---- printable bytes
 
-both-true : (a b : Bool) → a ≡ true → b ≡ true → (a && b) ≡ true
-both-true a b h l = rw (h, l)
-
 printable-digit : (q : ℕ) → q < 10 → isPrintable (48 + q) ≡ true
 unfolding isPrintable between
-printable-digit q h = both-true _ _ (sym (is-le 32 (48 + q) (omega arith))) (sym (is-le (48 + q) 126 (omega (h, arith))))
+printable-digit q h = and-both (sym (is-le 32 (48 + q) (omega arith))) (sym (is-le (48 + q) 126 (omega (h, arith))))
 
 printable-next : (b : Bool) (m : ℕ) (s : List ℕ) → all isPrintable s ≡ true → all isPrintable (pick b 32 (48 + m % 10) ∷ s) ≡ true
 unfolding all pick isPrintable between
 printable-next true m s h = h
-printable-next false m s h = both-true (isPrintable (48 + m % 10)) (all isPrintable s) (printable-digit (m % 10) (omega arith)) h
+printable-next false m s h = and-both (printable-digit (m % 10) (omega arith)) h
 
 printable-before : (k m : ℕ) (s : List ℕ) → all isPrintable s ≡ true → all isPrintable (digitsBefore k m s) ≡ true
 unfolding digitsBefore
@@ -173,7 +170,7 @@ printable-before (suc k) m s h = printable-before k (m / 10) (pick (eqb m 0) 32 
 
 printable-one : (q : ℕ) → q < 10 → all isPrintable ((48 + q) ∷ []) ≡ true
 unfolding all
-printable-one q h = both-true (isPrintable (48 + q)) true (printable-digit q h) refl
+printable-one q h = and-both (printable-digit q h) refl
 
 blanks-printable : (s : List ℕ) → all isPrintable (filledIf false s) ≡ true
 unfolding all filledIf pick isPrintable between

@@ -55,7 +55,7 @@ use Rattle.heading.specs.declared.AgainRead.{AgainRead}
 use Rattle.heading.specs.declared.AgainAnswer.{AgainAnswer}
 use Rattle.heading.specs.declared.AgainAnswer.the-variants.{Again}
 use Rattle.named.proofs.Back.{name-upper, name-some}
-use Rattle.nameable.proofs.Head.{name-short}
+use Rattle.symbol.proofs.Text.{name-most}
 use Rattle.nameable.proofs.Again.{againRead, again-found, again-none}
 use Rattle.sideread.specs.declared.SideRead.{SideRead}
 use Rattle.reader.specs.declared.CorrectionRead.{CorrectionRead}
@@ -299,7 +299,7 @@ module _ (network unit : ℕ) (name : List ℕ) (x y : Side) (e : Enterable netw
 
   -- the name again
   again : againAt text rest₂ ≡ Again (afterRead head₂ (y .letters))
-  again = again-is text (y .letters) rest₃ (shown-n network y i) (shown-sold network y i) lower₃ (name-upper network name (e .plain) false) (name-short false name) (name-some network name (e .plain) false) (repeatsName (y .letters)) refl
+  again = again-is text (y .letters) rest₃ (shown-n network y i) (shown-sold network y i) lower₃ (name-upper network name (e .plain) false) (name-most false name) (name-some network name (e .plain) false) (repeatsName (y .letters)) refl
 
   closes : y .letters .g ≡ false → Closes (endPair y ++ R)
   unfolding endPair opt

@@ -13,15 +13,13 @@ use Rattle.text.specs.Bytes.{bytes}
 use Rattle.text.specs.Pick.{pick, opt, same, among}
 use Rattle.text.specs.Reading.{Read, found, before, heads, starts}
 use Rattle.text.proofs.Texts.{same-true}
-use Rattle.text.proofs.Parts.{opt-most, all-append}
+use Rattle.text.proofs.Parts.{all-append}
 use Rattle.text.proofs.Booleans.{or-true}
-use Rattle.rules.specs.Tape.{isUpper, isRaised}
-use Rattle.rules.specs.Columns.{word}
-use Rattle.rules.specs.Names.{rootField, suffixField, temporaryField, appendageField, partText, nameText}
+use Rattle.rules.specs.Tape.{isUpper}
+use Rattle.rules.specs.Names.{nameText}
 use Rattle.rules.specs.Conditions.{afterName}
 use Rattle.rules.specs.Line.{isNetwork}
 use Rattle.rules.specs.declared.Letters.{Letters}
-use Rattle.rules.proofs.Fields.{word-short}
 use Rattle.named.specs.Plain.{NamePlain}
 use Rattle.named.specs.Cut.{isAfter, cut, oneSold}
 use Rattle.named.proofs.Root.{false-true, either}
@@ -37,6 +35,7 @@ use Rattle.heading.specs.declared.NameAnswer.the-variants.{Named, NoName}
 use Rattle.heading.proofs.Count.{name-within, count-within}
 use Rattle.nameable.proofs.Counts.{count-all, take-front, drop-front, take-drop}
 use Rattle.nameable.proofs.Lawful.{name-lawful}
+use Rattle.symbol.proofs.Text.{name-most}
 
 -- ---- the conditions after a name
 
@@ -133,31 +132,6 @@ pub after-told : (c : List ℕ) (x : Letters) → afterIn c ≡ After x → Afte
 unfolding afterIn
 after-told c x h = after-cases c x (starts (bytes ".ND") c) refl h
 
--- ---- the name's length
-
-dotted-short : (b : Bool) (c : ℕ) (s : List ℕ) (k : ℕ) → suc (length s) ≤ k → length (opt (not b) (bytes ".") ++ (c ∷ s)) ≤ suc k
-unfolding opt
-dotted-short true c s k h = omega (h, arith)
-dotted-short false c s k h = omega (h, arith)
-
-part-short : (s : List ℕ) (k : ℕ) → length s ≤ k → length (partText s) ≤ suc k
-unfolding partText opt
-part-short [] k h = omega arith
-part-short (c ∷ s) k h = dotted-short (isRaised c) c s k h
-
-pub name-short : (b : Bool) (name : List ℕ) → length (nameText b name) ≤ 22
-unfolding nameText
-name-short b name =
-    let r = word (rootField name) in
-    let s = partText (word (suffixField name)) in
-    let t = opt b (partText (word (temporaryField name))) in
-    let a = partText (word (appendageField name)) in
-    let i : length r ≤ 6 = omega (word-short (rootField name), length-take 6 name, arith) in
-    let j : length s ≤ 8 = part-short (word (suffixField name)) 7 (omega (word-short (suffixField name), length-take 7 (drop 6 name), arith)) in
-    let k : length t ≤ 5 = opt-most b (partText (word (temporaryField name))) 5 (part-short (word (temporaryField name)) 4 (omega (word-short (temporaryField name), length-take 4 (drop 13 name), arith))) in
-    let l : length a ≤ 3 = part-short (word (appendageField name)) 2 (omega (word-short (appendageField name), length-take 2 (drop 17 name), arith)) in
-    omega (length-append r s, length-append (r ++ s) t, length-append (r ++ s ++ t) a, i, j, k, l, arith)
-
 -- ---- the name up to the first condition
 
 counted : (b : Bool) (c : ℕ) (s : List ℕ) (r : Read (List ℕ)) (n : ℕ) → n ≡ length (r .got) → pick b 0 (suc n) ≡ length ((pick b (found [] (c ∷ s)) (before c r)) .got)
@@ -185,7 +159,7 @@ on-one temporary network text n h =
 
 module _ (temporary : Bool) (network : ℕ) (name : List ℕ) (n : isNetwork network ≡ true) (h : NamePlain network name) (x : Letters) (z : x .n ≡ false) (o : oneSold x ≡ true) where
   head-short : length (nameText temporary name ++ afterName x) ≤ 35
-  head-short = omega (length-append (nameText temporary name) (afterName x), name-short temporary name, after-short x z o, arith)
+  head-short = omega (length-append (nameText temporary name) (afterName x), name-most temporary name, after-short x z o, arith)
 
   count-name : nameCount (nameText temporary name ++ afterName x) ≡ length (nameText temporary name)
   count-name = count-cut (nameText temporary name ++ afterName x) ∙ ap (λ r. length (r .got)) (name-cut network name h temporary x)

@@ -1,13 +1,13 @@
 -- Laws of plain lines. Assumes nothing.
-use Prim.Native.Nat.{ℕ, zero, suc, _+_, _-_, _*_, _^_, _≤_, _<_}
+use Prim.Native.Nat.{ℕ, zero, suc, _+_, _-_, _*_, _≤_, _<_}
 use native.Mathlib.Omega.{arith}
 use mathlib.Core.Path.{_≡_, refl, sym, ap, _∙_, subst}
-use mathlib.Core.Bool.{Bool, true, false, _&&_, _||_, not}
+use mathlib.Core.Bool.{Bool, true, false, _&&_, not}
 use mathlib.Core.List.{List, [], _∷_}
 use lib.ListN.{length, getD, take, drop, length-take, length-drop}
 use lib.Seq.{drop-cons, take-all, take-add, drop-drop}
-use lib.Dec.{leb, ltb, eqb}
-use borrow.Author.Tests.{eq-eqb, ne-eqb, eqb-true, leb-true, le-leb, lt-leb, not-true, not-false}
+use lib.Dec.{leb, eqb}
+use borrow.Author.Tests.{eq-eqb, ne-eqb, eqb-true, leb-true, le-leb, not-false}
 use Rattle.text.specs.Pick.{pick, all, among}
 use Rattle.text.specs.Reading.{span, isDigit}
 use Rattle.text.specs.Bytes.{bytes}
@@ -21,7 +21,7 @@ use Rattle.rules.specs.declared.Number.{Number}
 use Rattle.rules.specs.declared.Number.the-variants.{Blank, Bad, Is}
 use Rattle.rules.specs.Columns.{columns, column, isBlank, blank, word, filled, justified, digitsFrom, zeroAlone, numeral, numberIn, isNumber, numberOrBlank, valueOf, passes, between}
 use Rattle.rules.specs.Conditions.{isCondition, lettersFormed, lettersIn, lawfulLetters, unrepeated, atMostOne}
-use Rattle.rules.specs.Line.{isPrintable, isShaped, isMarket, isPrice, isSecurityNumber, volumeIn, priceIn, decimalsIn, lettersField, daysIn, previousIn, previousDecimalsIn, formedBy, rangedBy, sideBy, matchedBy, alike, previousRanged, sideFormed, sideRanged, sideOf, sideMatched, firstSide, tradeFormed, tradeRanged, tradeOf}
+use Rattle.rules.specs.Line.{isPrintable, isShaped, isMarket, isPrice, isSecurityNumber, lettersField, daysIn, previousIn, previousDecimalsIn, formedBy, rangedBy, sideBy, matchedBy, alike, previousRanged, sideFormed, sideRanged, sideOf, sideMatched, firstSide, tradeFormed, tradeRanged, tradeOf}
 use Rattle.plainline.specs.declared.Plain.{Plain}
 use Rattle.plainline.specs.Plain.{noLetters, plainSide, plainTrade, PlainValues, PlainSide, PlainFields, PlainLine}
 

@@ -1,10 +1,9 @@
 -- A T line with no letters, days or previous last, and the trade that it is. Assumes nothing.
 use Prim.Native.Nat.{ℕ, _≤_}
 use mathlib.Core.Path.{_≡_}
-use mathlib.Core.Bool.{Bool, true, false}
+use mathlib.Core.Bool.{true, false}
 use mathlib.Core.List.{List}
 use Rattle.rules.specs.declared.Number.the-variants.{Is}
-use Rattle.rules.specs.declared.Price.{Price}
 use Rattle.rules.specs.declared.Letters.{Letters}
 use Rattle.rules.specs.declared.Side.{Side}
 use Rattle.rules.specs.declared.Trade.{Trade}

@@ -1,16 +1,13 @@
 -- Laws of a side's steps, in the form of the code's needs. Assumes nothing.
 use Prim.Native.Nat.{ℕ, _+_, _-_, _^_, _≤_, _<_}
 use native.Mathlib.Omega.{arith}
-use mathlib.Core.Path.{_≡_, refl, sym, ap, _∙_}
+use mathlib.Core.Path.{_≡_, sym, ap, _∙_}
 use mathlib.Core.Bool.{Bool, true, false, _&&_, _||_, not}
 use mathlib.Core.List.{List, []}
 use lib.ListN.{length, take, drop, length-drop}
-use lib.Seq.{take-all}
 use borrow.Author.Tests.{not-true, not-false}
 use Rattle.text.specs.Pick.{pick}
 use Rattle.rules.specs.declared.Letters.{Letters}
-use Rattle.rules.specs.declared.Price.{Price}
-use Rattle.rules.specs.declared.Side.{Side}
 use Rattle.scan.specs.declared.PriceRead.{PriceRead}
 use Rattle.scan.specs.declared.PriceAnswer.{PriceAnswer}
 use Rattle.scan.specs.declared.PriceAnswer.the-variants.{Priced, NoPrice}
@@ -31,6 +28,7 @@ use Rattle.sideread.specs.declared.SideRead.{SideRead}
 use Rattle.sideread.specs.declared.SideAnswer.{SideAnswer}
 use Rattle.sideread.specs.declared.SideAnswer.the-variants.{Sided, NoSide}
 use Rattle.sideread.specs.Side.{headCount, beside, sidedBy, sideWith, saidSide, orElse, sideAt}
+use Rattle.tails.proofs.Steps.{price-part}
 
 -- ---- parts
 
@@ -68,12 +66,6 @@ module _ (part : List ℕ) (letters : Letters) (v : Volume) (used : ℕ) (a b : 
 
 -- ---- the networks
 
-pub price-part : (s : List ℕ) (u : ℕ) → priceAt (take (length s - u) (drop u s)) ≡ priceAt (drop u s)
-price-part s u = ap priceAt (take-all (length s - u) (drop u s) (rw length-drop (omega arith)))
-
-pub price-cut : (s : List ℕ) (u : ℕ) (x : PriceAnswer) → x ≡ priceAt (take (length s - u) (drop u s)) → x ≡ priceAt (drop u s)
-price-cut s u x e = e ∙ price-part s u
-
 module _ (first : Beside) (letters : Letters) (a b : Bool) (part : List ℕ) (v x : Volume) (used : ℕ) (c d n : Bool) (e : x ≡ beside first v) (f : c ≡ (a && explained 65 x v)) (g : d ≡ (b && explained 66 x v)) (h : n ≡ (c || d)) where
   with-is : sideWith first letters a b part v used ≡ pick n (sidedBy part letters v used c d (priceAt (drop used part))) NoSide
   unfolding sideWith
@@ -85,7 +77,7 @@ module _ (first : Beside) (letters : Letters) (a b : Bool) (part : List ℕ) (v 
 
   pub explained-side : (price : PriceAnswer) (r : SideAnswer) → not n ≡ false → price ≡ priceAt (take (length part - used) (drop used part)) → r ≡ sidedBy part letters v used c d price → r ≡ sideWith first letters a b part v used
   unfolding pick
-  explained-side price r q i k = rw (with-is, not-false n q) (k ∙ ap (sidedBy part letters v used c d) (price-cut part used price i))
+  explained-side price r q i k = rw (with-is, not-false n q) (k ∙ ap (sidedBy part letters v used c d) (price-part part used price i))
 
 -- ---- with a volume shown, else without
 

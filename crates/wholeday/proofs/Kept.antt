@@ -290,6 +290,3 @@ entered-same day name (Traded t) k f z y j = entered-alike _ _ (changed day k (t
 entered-same day name (Cancelled t) k f z y j = refl
 entered-same day name (Erred t) k f z y j = refl
 entered-same day name (Corrected c) k f z y j = entered-alike _ _ (changed day k (c .security) (f .low) (f .high) _ refl refl j .0)
-
-pub place-or-not : (i j : ℕ) → (i ≡ j) ⊎ (i ≡ j → ⊥)
-place-or-not i j = same-or-not i j

@@ -25,8 +25,9 @@ use Rattle.wholeday.specs.Invariant.{atPlace, named, Invariant, Later}
 use Rattle.wholeday.specs.Decodes.{Decodes, AllDecode, dayAfter}
 use Rattle.wholeday.specs.Claim.{accepts, acceptedOf}
 use Rattle.wholeday.proofs.Accepted.{fine}
-use Rattle.wholeday.proofs.Kept.{NotDate, NotListed, kept-line, later-same, later-trans, entered-now, named-now, entered-before, entered-same, place-or-not}
+use Rattle.wholeday.proofs.Kept.{NotDate, NotListed, kept-line, later-same, later-trans, entered-now, named-now, entered-before, entered-same}
 use Rattle.wholeday.proofs.Prints.{line-owed}
+use Rattle.text.proofs.Booleans.{same-or-not}
 
 -- ---- one call, refused or accepted
 
@@ -245,7 +246,7 @@ entered-call day c i k n h = go (refusalOf day (c .line) (c .room)) (eqb (column
     go none true e q = ⊎-elim
         (λ (s : i ≡ place (c .line)). inr (rw (accepted-yes day c e, q), sym s))
         (λ (s : i ≡ place (c .line) → ⊥). inl (sym (entered-before day k (nameColumns (c .line)) (listingOf (c .line)) (fine-listing day c e q) i s) ∙ (ap (λ (d : Day). isEntered (atPlace d i)) (sym (after-listing day c e q)) ∙ h)))
-        (place-or-not i (place (c .line)))
+        (same-or-not i (place (c .line)))
     go none false e q = inl (sym (entered-same day (nameColumns (c .line)) (lineOf (c .line)) k (fine day (c .line) (c .room) e) (other-kind day c k n e) (not-listed (column 1 (c .line)) (c .line) q) i) ∙ (ap (λ (d : Day). isEntered (atPlace d i)) (sym (after-taken day c e)) ∙ h))
 
 member-now : (b : Bool) (x : List ℕ) (rest : List (List ℕ)) → b ≡ true → member x (pick b (x ∷ []) [] ++ rest) ≡ true

@@ -1,4 +1,5 @@
-use Rattle.sideread.proofs.Sides.{price-cut, unexplained, explained-side}
+use Rattle.tails.proofs.Steps.{price-part}
+use Rattle.sideread.proofs.Sides.{unexplained, explained-side}
 use borrow.Author.Needs.{needs}
 use Rattle.sideread.proofs.side_with.Statement.{statement}
 use Rattle.sideread.proofs.side_with.Tie as tie
@@ -31,7 +32,7 @@ price-at-requires : tie.Need-price-at-requires
 price-at-requires c κs = search needs
 
 sided-by-requires : tie.Need-sided-by-requires
-sided-by-requires c κs = (search needs, search price-cut)
+sided-by-requires c κs = (search needs, search price-part)
 
 returns-2 : tie.Need-returns-2
 returns-2 c = search explained-side
