@@ -31,7 +31,7 @@ fn digits(field: &[u8]) -> Number
 }
 
 // How many blanks stand at the field's start.
-pub fn blanks(field: &[u8]) -> usize
+fn blanks(field: &[u8]) -> usize
     ensures { λ r. ⌜ (r ≤ length (now (field .entry))) × (justified (now (field .entry)) ≡ drop r (now (field .entry))) ⌝ }
 {
     let mut i = 0;

@@ -21,7 +21,7 @@ fn shown_volume_length(shows: bool, network: u64, unit: u64, v: u64) -> usize
     0
 }
 
-pub fn write_shown_volume(rest: &mut [u8], shows: bool, network: u64, unit: u64, v: u64) -> usize
+fn write_shown_volume(rest: &mut [u8], shows: bool, network: u64, unit: u64, v: u64) -> usize
     requires { ⌜ (1 ≤ unit) × (length (opt shows (volumeText network unit v)) ≤ length (now rest)) ⌝ }
     ensures { λ r. ⌜ Written (opt shows (volumeText network unit v)) (now (rest .entry)) (now (rest .exit)) r ⌝ }
 {
