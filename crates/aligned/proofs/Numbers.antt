@@ -17,7 +17,7 @@ use Rattle.text.proofs.Booleans.{and-false, and-both}
 use Rattle.rules.specs.declared.Number.the-variants.{Is}
 use Rattle.rules.specs.Columns.{isBlank, justified, digitsFrom, numeral, numberIn, between}
 use Rattle.aligned.specs.Columns.{goesOn, stands, worthOf, fits, formed, begins, placed}
-use Rattle.aligned.proofs.Parts.{cut}
+use Rattle.text.proofs.Parts.{take-within}
 
 -- ---- what stands in a column
 
@@ -118,7 +118,7 @@ placed-stands first (suc k) (f ∷ fs) (m ∷ ms) left (c ∷ s) h e =
 -- k columns of a number that begins at column j of the tables; the first m of s were looked at
 pub stands-in : (fs ms s : List ℕ) (m j k : ℕ) → formed fs ms (getD (take m s) 0 0) (drop 1 (take m s)) ≡ true → 1 + j + k ≤ m → placed true k (drop j fs) (drop j ms) ≡ true → stands true (take k (drop (1 + j) s)) ≡ true
 stands-in fs ms s m j k f h t =
-    let e : take k (drop j (drop 1 (take m s))) ≡ take k (drop (1 + j) s) = rw (drop-drop j 1 (take m s)) (cut k (1 + j) m s h) in
+    let e : take k (drop j (drop 1 (take m s))) ≡ take k (drop (1 + j) s) = rw (drop-drop j 1 (take m s)) (take-within k (1 + j) m s h) in
     ap (stands true) (sym e) ∙ placed-stands true k (drop j fs) (drop j ms) _ _ t (later j fs ms _ _ f)
 
 -- the tables' first k columns, of a number that begins with a blank before them

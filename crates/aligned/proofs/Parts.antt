@@ -1,21 +1,14 @@
--- Laws of columns of columns, and of blank ones. Assumes nothing.
+-- Laws of parts of columns that are blank. Assumes nothing.
 use Prim.Native.Nat.{ℕ, zero, suc, _+_, _≤_}
-use native.Mathlib.Omega.{arith}
 use mathlib.Core.Path.{_≡_, refl}
 use mathlib.Core.Bool.{Bool, true}
 use mathlib.Core.List.{List, [], _∷_}
 use lib.ListN.{take, drop}
-use lib.Seq.{take-take}
 use Rattle.text.specs.Pick.{pick, all}
 use Rattle.text.proofs.Texts.{and-left, and-right}
+use Rattle.text.proofs.Parts.{take-within}
 use Rattle.rules.specs.declared.Number.the-variants.{Blank}
 use Rattle.rules.specs.Columns.{isBlank, blank, justified, numeral, numberIn}
-
-pub cut : (k j m : ℕ) (s : List ℕ) → j + k ≤ m → take k (drop j (take m s)) ≡ take k (drop j s)
-cut k zero m s h = take-take k m s (omega arith)
-cut k (suc j) zero s h = absurd (omega arith)
-cut k (suc j) (suc m) [] h = refl
-cut k (suc j) (suc m) (x ∷ s) h = cut k j m s (omega arith)
 
 module _ (p : ℕ → Bool) where
   all-take : (k : ℕ) (s : List ℕ) → all p s ≡ true → all p (take k s) ≡ true
@@ -33,7 +26,7 @@ module _ (p : ℕ → Bool) where
 -- a part of a blank part
 pub blank-part : (k j m : ℕ) (s : List ℕ) → j + k ≤ m → blank (take m s) ≡ true → blank (take k (drop j s)) ≡ true
 unfolding blank
-blank-part k j m s h b = rw (← cut k j m s h) (all-take isBlank k (drop j (take m s)) (all-drop isBlank j (take m s) b))
+blank-part k j m s h b = rw (← take-within k j m s h) (all-take isBlank k (drop j (take m s)) (all-drop isBlank j (take m s) b))
 
 blank-justified : (s : List ℕ) → blank s ≡ true → justified s ≡ []
 unfolding blank all justified pick

@@ -13,9 +13,10 @@ use Rattle.rules.specs.declared.Number.the-variants.{Blank, Is}
 use Rattle.rules.specs.Columns.{isBlank, blank, numberIn}
 use Rattle.field.proofs.Texts.{all-split}
 use Rattle.aligned.specs.Columns.{stands, worthOf, formed, placed}
-use Rattle.aligned.proofs.Parts.{cut, blank-part, blank-number}
+use Rattle.aligned.proofs.Parts.{blank-part, blank-number}
 use Rattle.aligned.proofs.Numbers.{number-stands, stands-in, stands-on}
 use Rattle.dayside.specs.Side.{amountsStand}
+use Rattle.text.proofs.Parts.{take-within}
 
 -- the tables have the volume from column 2 on and n at column 10
 unfoldable pub tabled : List ℕ → List ℕ → Bool
@@ -56,7 +57,7 @@ module _ (part : List ℕ) where
       let x : List ℕ = drop 28 part in
       let e : take 16 (take 18 x) ≡ take 16 x = take-take 16 18 x (omega arith) in
       let l : length (drop 16 (take 18 x)) ≤ 2 = omega (arith, length-drop 16 (take 18 x), length-take 18 x) in
-      let f : drop 16 (take 18 x) ≡ take 2 (drop 44 part) = sym (take-all 2 (drop 16 (take 18 x)) l) ∙ cut 2 16 18 x (omega arith) ∙ ap (take 2) (drop-drop 16 28 part) in
+      let f : drop 16 (take 18 x) ≡ take 2 (drop 44 part) = sym (take-all 2 (drop 16 (take 18 x)) l) ∙ take-within 2 16 18 x (omega arith) ∙ ap (take 2) (drop-drop 16 28 part) in
       rw (← e, ← f) (all-split isBlank 16 (take 18 x))
 
   pub end-marked : (r : Bool) → r ≡ blank (take 16 (drop 28 part)) → not r ≡ true → false ≡ blank (take 18 (drop 28 part))

@@ -111,18 +111,15 @@ name-most b s =
     let la : length (appendageField s) ≤ 2 = omega (arith, length-take 2 (drop 17 s)) in
     rw name-sum (omega (arith, word-short (rootField s), word-short (suffixField s), word-short (temporaryField s), word-short (appendageField s)))
 
-pub name-short : (b : Bool) (s : List ℕ) → length s ≡ 19 → length (nameText b s) ≤ 22
-name-short b s h = name-most b s
-
 module _ (b : Bool) (s : List ℕ) (k l m n : ℕ) (w : WordOf (rootField s) k) (x : l ≡ length (partText (word (suffixField s)))) (y : m ≡ length (opt b (partText (word (temporaryField s))))) (z : n ≡ length (partText (word (appendageField s)))) where
   pub counted : k + l + m + n ≡ length (nameText b s)
   counted = rw (name-sum, w .count-is, x, y, z)
 
 pub counted-short : (b : Bool) (s : List ℕ) (n : ℕ) → length s ≡ 19 → n ≡ length (nameText b s) → (n ≡ length (nameText b s)) × (n ≤ 22)
-counted-short b s n h e = (e, omega (arith, name-short b s h))
+counted-short b s n h e = (e, omega (arith, name-most b s))
 
 pub name-fits : (b : Bool) (s : List ℕ) → length s ≡ 19 → length (nameText b s) ≤ 24
-name-fits b s h = omega (arith, name-short b s h)
+name-fits b s h = omega (arith, name-most b s)
 
 -- two texts that writers left, compared
 pub same-cut : (t u b c x y : List ℕ) (m n : ℕ) (r : Bool) → Written t b x m → Written u c y n → r ≡ same (take m x) (take n y) → r ≡ same t u

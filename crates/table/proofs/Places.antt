@@ -5,13 +5,13 @@ use native.Mathlib.Omega.{arith}
 use mathlib.Core.Path.{_≡_, refl, sym, ap, _∙_}
 use mathlib.Core.Logic.{_⊎_, inl, inr, ⊎-elim}
 use mathlib.Core.List.{List, [], _∷_, _++_, append-assoc, append-nil}
-use lib.ListN.{length, getD, set, take, drop, replicate, length-set, length-append, length-take, length-drop, drop-of-length-le, getD-replicate, length-replicate}
-use lib.Seq.{getD-set-same, getD-set-other, take-all, drop-drop, take-append-le, drop-append-le, drop-at, take-at, take-take, length-take-le, drop-append-add}
+use lib.ListN.{length, getD, set, take, drop, replicate, length-set, length-append, length-drop, drop-of-length-le}
+use lib.Seq.{getD-set-same, getD-set-other, take-all, drop-drop, take-append-le, drop-append-le, drop-at, take-at, length-take-le, drop-append-add}
 use Rattle.text.specs.Put.{put, Written}
 use Rattle.rules.specs.declared.Security.{Security}
-use Rattle.rules.specs.declared.Settings.{Settings}
-use Rattle.rules.specs.Day.{Day, vacant, noName}
-use Rattle.table.specs.Rows.{storedFrom, numbers, row, withRow, nameOf, withName, rowsFrom, namesFrom, dayOf}
+use Rattle.rules.specs.Day.{vacant, noName}
+use Rattle.table.specs.Rows.{storedFrom, numbers, row, withRow, nameOf, withName, rowsFrom, namesFrom}
+use Rattle.text.proofs.Parts.{take-within}
 
 -- ---- numbers stored one after the other
 
@@ -112,14 +112,7 @@ name-before names name i j h l =
     let t = take (i * 19) names in
     let n : length t ≡ i * 19 = length-take-le (i * 19) names l in
     let d : 19 ≤ length (drop (j * 19) t) = rw length-drop (omega arith) in
-    rw (drop-append-le (j * 19) t _ (omega arith), take-append-le 19 (drop (j * 19) t) _ d) (front names (j * 19) 19 (i * 19) (omega arith))
-  where
-    front : (l : List ℕ) (a n m : ℕ) → a + n ≤ m → take n (drop a (take m l)) ≡ take n (drop a l)
-    front l zero n m h = take-take n m l (omega arith)
-    front [] (suc a) n zero h = refl
-    front [] (suc a) n (suc m) h = refl
-    front (x ∷ xs) (suc a) n zero h = absurd (omega arith)
-    front (x ∷ xs) (suc a) n (suc m) h = front xs a n m (omega arith)
+    rw (drop-append-le (j * 19) t _ (omega arith), take-append-le 19 (drop (j * 19) t) _ d) (take-within 19 (j * 19) (i * 19) names (omega arith))
 
 -- and so is a name after it
 pub name-after : (names name : List ℕ) (i j : ℕ) → length name ≡ 19 → i < j → i * 19 + 19 ≤ length names → nameOf (withName names (i * 19) name) j ≡ nameOf names j

@@ -1,12 +1,12 @@
 -- Laws of parts of texts: fronts, rests, texts one behind the other, texts that may be left out. Assumes nothing.
-use Prim.Native.Nat.{ℕ, suc, _-_, _≤_}
+use Prim.Native.Nat.{ℕ, zero, suc, _+_, _-_, _≤_}
 use native.Mathlib.Omega.{arith}
 use mathlib.Core.Path.{_≡_, refl, sym, ap, _∙_}
 use mathlib.Core.Bool.{Bool, true, false}
 use mathlib.Core.List.{List, [], _∷_, _++_}
 use lib.Dec.{eqb}
 use lib.ListN.{length, take, drop, length-drop}
-use lib.Seq.{length-take-le, take-all, take-at}
+use lib.Seq.{length-take-le, take-take, take-all, take-at}
 use borrow.Author.Tests.{eqb-true}
 use Rattle.text.specs.Pick.{pick, opt, all}
 use Rattle.text.specs.Put.{put, Written}
@@ -21,6 +21,13 @@ counted n s h = sym (length-take-le n s h)
 -- a part up to the end
 pub rest-is : (s : List ℕ) (n : ℕ) → take (length s - n) (drop n s) ≡ drop n s
 rest-is s n = take-all (length s - n) (drop n s) (rw length-drop (omega arith))
+
+-- a part of a front
+pub take-within : (k j m : ℕ) (s : List ℕ) → j + k ≤ m → take k (drop j (take m s)) ≡ take k (drop j s)
+take-within k zero m s h = take-take k m s (omega arith)
+take-within k (suc j) zero s h = absurd (omega arith)
+take-within k (suc j) (suc m) [] h = refl
+take-within k (suc j) (suc m) (x ∷ s) h = take-within k j m s (omega arith)
 
 -- ---- what was written stands at the front
 
