@@ -12,10 +12,10 @@ use Rattle.text.specs.Pick.{pick, all, among}
 use Rattle.text.specs.Reading.{span, isDigit}
 use Rattle.text.specs.Bytes.{bytes}
 use Rattle.text.proofs.Texts.{and-left, and-right}
-use Rattle.text.proofs.Parts.{all-append}
+use Rattle.text.proofs.Parts.{take-within, all-append}
 use Rattle.field.proofs.Texts.{word-stop}
 use Rattle.aligned.specs.Columns.{worthOf, formed, placed}
-use Rattle.aligned.proofs.Parts.{cut, blank-part, blank-number}
+use Rattle.aligned.proofs.Parts.{blank-part, blank-number}
 use Rattle.aligned.proofs.Numbers.{number-stands, stands-in}
 use Rattle.rules.specs.declared.Number.{Number}
 use Rattle.rules.specs.declared.Number.the-variants.{Blank, Bad, Is}
@@ -227,7 +227,7 @@ line-printable line p l t h =
 
 -- columns of the line's side are columns of the line
 side-columns : (j k : ℕ) (line : List ℕ) → j + k ≤ 46 → take k (drop j (firstSide line)) ≡ take k (drop (6 + j) line)
-side-columns j k line h = cut k j 46 (drop 6 line) h ∙ rw (drop-drop j 6 line)
+side-columns j k line h = take-within k j 46 (drop 6 line) h ∙ rw (drop-drop j 6 line)
 
 pub plain-line : (line : List ℕ) (p : Plain) → length line ≡ 100 → column 1 line ≡ 84 → PlainFields line p → PlainLine line p
 unfolding isShaped tradeFormed tradeRanged tradeOf isNumber valueOf plainTrade
@@ -237,6 +237,7 @@ plain-line line p l t h = record {
   formed = rw (h .security-is, h .market-is, h .market, side-formed (firstSide line) p (h .side), h .rest);
   ranged = rw (h .security-is, h .place, side-ranged (firstSide line) p (h .side));
   trade = rw (h .security-is, h .market-is, side-is (firstSide line) p (h .side), side-lawful (firstSide line) p (h .side), side-matched (firstSide line) p (h .side));
+  volume-is = ap numberIn (sym (side-columns 0 9 line (omega arith))) ∙ h .side .volume-is;
   n-is = ap numberIn (sym (side-columns 9 14 line (omega arith))) ∙ h .side .n-is;
 }
 

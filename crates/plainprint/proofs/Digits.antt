@@ -6,15 +6,15 @@ use native.Mathlib.Omega.{arith}
 use mathlib.Core.Path.{_≡_, refl, sym, ap, _∙_}
 use mathlib.Core.Bool.{Bool, true, false}
 use mathlib.Core.List.{List, [], _∷_, _++_, append-assoc, append-nil}
-use lib.ListN.{length}
+use lib.ListN.{length, take, drop, length-append, length-drop, take-append-drop}
 use lib.Pow.{pow-add}
-use lib.Seq.{append-snoc}
+use lib.Seq.{append-snoc, take-at, drop-at}
 use lib.Dec.{eqb, leb, ltb}
-use borrow.Author.Tests.{eqb-false, leb-true, lt-ltb, ltb-true, ltb-false}
+use borrow.Author.Tests.{eqb-true, eqb-false, leb-true, lt-ltb, ltb-true, ltb-false}
 use Rattle.text.specs.Pick.{pick}
 use Rattle.text.specs.Reading.{isDigit}
 use Rattle.text.specs.Decimal.{decimal, places}
-use Rattle.text.proofs.Decimal.{decimal-small, decimal-big, length-small, length-big}
+use Rattle.text.proofs.Decimal.{decimal-small, decimal-big, length-small, length-big, length-places}
 use Rattle.text.proofs.Texts.{and-left, and-right}
 use Rattle.rules.specs.declared.Number.the-variants.{Bad, Is}
 use Rattle.rules.specs.Columns.{isBlank, justified, digitsFrom, zeroAlone, numeral, numberIn}
@@ -104,17 +104,17 @@ first-digit c s n e z = go (isDigit c) refl
         onto s a n (picked _ Bad (isDigit c) n e q) (omega arith) ∙ rw (decimal-small a (omega arith), v)
     go false q = not-bad n _ _ (other-picked (digitsFrom (0 * 10 + (c - 48)) s) Bad (isDigit c) n e q)
 
-zero-alone : (s : List ℕ) (n : ℕ) → zeroAlone s ≡ Is n → 1 ≤ n → ⊥
+zero-alone : (s : List ℕ) (n : ℕ) → zeroAlone s ≡ Is n → decimal n ≡ 48 ∷ s
 unfolding zeroAlone
-zero-alone [] n e h = let z = same-number 0 n e in omega arith
-zero-alone (c ∷ s) n e h = let z : _≡_ {A = ℕ} 0 1 = cc in omega arith
+zero-alone [] n e = ap decimal (sym (same-number 0 n e)) ∙ decimal-small 0 (omega arith)
+zero-alone (c ∷ s) n e = not-bad n _ _ e
 
-numeral-is : (c : ℕ) (s : List ℕ) (n : ℕ) → numeral (c ∷ s) ≡ Is n → 1 ≤ n → decimal n ≡ c ∷ s
+numeral-is : (c : ℕ) (s : List ℕ) (n : ℕ) → numeral (c ∷ s) ≡ Is n → decimal n ≡ c ∷ s
 unfolding numeral
-numeral-is c s n e h = go (eqb c 48) refl
+numeral-is c s n e = go (eqb c 48) refl
   where
     go : (b : Bool) → eqb c 48 ≡ b → decimal n ≡ c ∷ s
-    go true q = absurd (zero-alone s n (picked _ (digitsFrom 0 (c ∷ s)) (eqb c 48) n e q) h)
+    go true q = zero-alone s n (picked _ (digitsFrom 0 (c ∷ s)) (eqb c 48) n e q) ∙ rw (eqb-true c 48 q)
     go false q = first-digit c s n (other-picked (zeroAlone s) _ (eqb c 48) n e q) (eqb-false c 48 q)
 
 -- a text ends with another
@@ -122,22 +122,25 @@ pub record Ends (s t : List ℕ) : Type 0 where
   pub head : List ℕ
   pub whole : s ≡ head ++ t
 
+pub itself : (s : List ℕ) → Ends s s
+itself s = record { head = []; whole = refl }
+
 no-number : (n : ℕ) → numberIn [] ≡ Is n → ⊥
 unfolding numberIn justified numeral
 no-number n e = let z : _≡_ {A = ℕ} 0 1 = cc in omega arith
 
 -- blanks, then the digits of n
-pub number-ends : (s : List ℕ) (n : ℕ) → numberIn s ≡ Is n → 1 ≤ n → Ends s (decimal n)
-number-ends [] n e h = absurd (no-number n e)
-number-ends (c ∷ s) n e h = go (isBlank c) refl (number-ends s n)
+number-ends : (s : List ℕ) (n : ℕ) → numberIn s ≡ Is n → Ends s (decimal n)
+number-ends [] n e = absurd (no-number n e)
+number-ends (c ∷ s) n e = go (isBlank c) refl (number-ends s n)
   where
-    go : (b : Bool) → isBlank c ≡ b → (numberIn s ≡ Is n → 1 ≤ n → Ends s (decimal n)) → Ends (c ∷ s) (decimal n)
-    go true q ih = let t = ih (passed c s n e q) h in record { head = c ∷ t .head; whole = ap (λ (l : List ℕ). c ∷ l) (t .whole) }
-    go false q ih = record { head = []; whole = sym (numeral-is c s n (kept c s n e q) h) }
+    go : (b : Bool) → isBlank c ≡ b → (numberIn s ≡ Is n → Ends s (decimal n)) → Ends (c ∷ s) (decimal n)
+    go true q ih = let t = ih (passed c s n e q) in record { head = c ∷ t .head; whole = ap (λ (l : List ℕ). c ∷ l) (t .whole) }
+    go false q ih = record { head = []; whole = sym (numeral-is c s n (kept c s n e q)) }
 
 -- ---- the digits of its parts
 
-pub decimal-parts : (d n : ℕ) → 10 ^ d ≤ n → decimal n ≡ decimal (n / 10 ^ d) ++ places d n
+decimal-parts : (d n : ℕ) → 10 ^ d ≤ n → decimal n ≡ decimal (n / 10 ^ d) ++ places d n
 unfolding places
 decimal-parts zero n h = let q : n / 1 ≡ n = omega arith in rw (q, append-nil (decimal n))
 decimal-parts (suc d) n h =
@@ -145,6 +148,9 @@ decimal-parts (suc d) n h =
     let o = one-le-pow d 10 (omega arith) in
     let q : n / 10 / 10 ^ d ≡ n / 10 ^ suc d = div-div-eq-div-mul n 10 (10 ^ d) ∙ rw (pow-succ' 10 d) in
     decimal-big n (omega arith) ∙ (ap (λ (l : List ℕ). l ++ ((48 + n % 10) ∷ [])) (decimal-parts d (n / 10) (omega arith)) ∙ rw (q, append-assoc))
+
+pub parts-length : (d n : ℕ) → 10 ^ d ≤ n → length (decimal n) ≡ length (decimal (n / 10 ^ d)) + d
+parts-length d n h = ap length (decimal-parts d n h) ∙ simp (length-append, length-places)
 
 -- the last d digits are those of the remainder
 pub places-mod : (d n : ℕ) → places d (n % 10 ^ d) ≡ places d n
@@ -158,6 +164,29 @@ places-mod (suc d) n =
     let a : n % 10 ^ suc d / 10 ≡ n / 10 % p = omega arith in
     let b : n % 10 ^ suc d % 10 ≡ n % 10 = omega arith in
     rw (a, b, places-mod d (n / 10))
+
+-- ---- the columns of its parts
+
+cut-out : (s x w f t : List ℕ) (m d k : ℕ) → s ≡ (x ++ w) ++ (f ++ t) → length s ≡ m + length t → length f ≡ d → k ≡ length w → (take k (drop (m - d - k) s) ≡ w) × (take d (drop (m - d) s) ≡ f)
+cut-out s x w f t m d k e l i j =
+    let n : m + length t ≡ length x + length w + (length f + length t) = sym l ∙ (ap length e ∙ simp length-append) in
+    let p : m - d ≡ length (x ++ w) = omega (arith, length-append x w) in
+    let q : length x ≡ m - d - k = omega arith in
+    let g : s ≡ x ++ (w ++ (f ++ t)) = e ∙ append-assoc x w (f ++ t) in (
+      ap (λ (l : List ℕ). take k (drop (m - d - k) l)) g ∙ (ap (take k) (drop-at x (w ++ (f ++ t)) (m - d - k) q) ∙ take-at w (f ++ t) k (sym j)),
+      ap (λ (l : List ℕ). take d (drop (m - d) l)) e ∙ (ap (take d) (drop-at (x ++ w) (f ++ t) (m - d) (sym p)) ∙ take-at f t d i),
+    )
+
+regroup : (s t u v x y w f : List ℕ) → t ++ v ≡ s → t ≡ x ++ u → u ≡ (y ++ w) ++ f → s ≡ ((x ++ y) ++ w) ++ (f ++ v)
+regroup s t u v x y w f a b c = sym a ∙ rw (b, c) (simp append-assoc)
+
+-- n in the first m columns: its last d digits, and the last k of those before them
+pub digits-in : (s : List ℕ) (m d n : ℕ) (w : List ℕ) (k : ℕ) → m ≤ length s → numberIn (take m s) ≡ Is n → 10 ^ d ≤ n → Ends (decimal (n / 10 ^ d)) w → k ≡ length w → (take k (drop (m - d - k) s) ≡ w) × (take d (drop (m - d) s) ≡ places d n)
+digits-in s m d n w k l e h b j =
+    let a = number-ends (take m s) n e in
+    let t : List ℕ = drop m s in
+    let g : decimal n ≡ (b .head ++ w) ++ places d n = decimal-parts d n h ∙ rw (b .whole) in
+    cut-out s (a .head ++ b .head) w (places d n) t m d k (regroup s (take m s) (decimal n) t (a .head) (b .head) w (places d n) (take-append-drop m s) (a .whole) g) (omega (arith, length-drop m s)) (length-places d n) j
 
 -- ---- in units
 

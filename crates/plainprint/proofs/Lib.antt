@@ -2,3 +2,4 @@ pub mod Layers
 pub mod Names
 pub mod Digits
 pub mod Prices
+pub mod Volumes

@@ -1,26 +1,25 @@
 -- Laws of a price in its line's columns. Assumes nothing.
 use Prim.Native.Nat.{ℕ, _+_, _-_, _/_, _%_, _^_, _≤_, _<_}
-use native.Mathlib.Nat.{one-le-pow, pow-le-pow-right}
+use native.Mathlib.Nat.{pow-le-pow-right}
 use native.Mathlib.Omega.{arith}
 use mathlib.Core.Path.{_≡_, refl, sym, ap, _∙_}
 use mathlib.Core.Bool.{Bool, true, false}
 use mathlib.Core.List.{List, [], _∷_, _++_, append-assoc, append-nil}
-use lib.ListN.{length, take, drop, set, length-append, length-take, length-drop, take-append-drop}
-use lib.Seq.{take-at, drop-at}
+use lib.ListN.{length, take, drop, set, length-take}
 use lib.Dec.{ltb}
 use borrow.Author.Tests.{eq-eqb, ne-eqb, ltb-true, ltb-false}
 use Rattle.text.specs.Bytes.{bytes}
 use Rattle.text.specs.Pick.{pick}
 use Rattle.text.specs.Put.{Written}
 use Rattle.text.specs.Decimal.{decimal, places}
-use Rattle.text.proofs.Decimal.{decimal-small, decimal-big, length-places}
+use Rattle.text.proofs.Decimal.{decimal-small, decimal-big}
 use Rattle.rules.specs.declared.Price.{Price}
 use Rattle.rules.specs.Price.{wholePart, fraction, units, wholeText, fractionText, shortWhole, priceText}
 use Rattle.trade.proofs.Short.{price-most}
 use Rattle.plainprint.specs.Laid.{Laid}
-use Rattle.plainprint.specs.Print.{Columned}
+use Rattle.plainprint.specs.Print.{PriceColumns}
 use Rattle.plainprint.proofs.Layers.{laid-named, laid-front, laid-then, laid-byte, laid-part, laid-room}
-use Rattle.plainprint.proofs.Digits.{Ends, number-ends, decimal-parts, places-mod, zero-fraction, nonzero-fraction, whole-below, whole-from}
+use Rattle.plainprint.proofs.Digits.{Ends, digits-in, places-mod, zero-fraction, nonzero-fraction, whole-below, whole-from}
 
 -- ---- dollars
 
@@ -44,21 +43,6 @@ dollars-end : (full : Bool) (w : ℕ) → (w ≡ 0 → ⊥) → Ends (decimal w)
 unfolding wholeText pick
 dollars-end true w z = record { head = []; whole = rw (ne-eqb w 0 z) }
 dollars-end false w z = short-ends w
-
--- ---- columns that end in eight others
-
-cut-out : (s x w f t : List ℕ) (d k : ℕ) → s ≡ (x ++ w) ++ (f ++ t) → length s ≡ 22 → length t ≡ 8 → length f ≡ d → k ≡ length w → (take k (drop (14 - d - k) s) ≡ w) × (take d (drop (14 - d) s) ≡ f)
-cut-out s x w f t d k e l m i j =
-    let n : 22 ≡ length x + length w + (length f + length t) = sym l ∙ (ap length e ∙ simp length-append) in
-    let p : 14 - d ≡ length (x ++ w) = omega (arith, length-append x w) in
-    let q : length x ≡ 14 - d - k = omega arith in
-    let g : s ≡ x ++ (w ++ (f ++ t)) = e ∙ append-assoc x w (f ++ t) in (
-      ap (λ (l : List ℕ). take k (drop (14 - d - k) l)) g ∙ (ap (take k) (drop-at x (w ++ (f ++ t)) (14 - d - k) q) ∙ take-at w (f ++ t) k (sym j)),
-      ap (λ (l : List ℕ). take d (drop (14 - d) l)) e ∙ (ap (take d) (drop-at (x ++ w) (f ++ t) (14 - d) (sym p)) ∙ take-at f t d i),
-    )
-
-regroup : (s t u v x y w f : List ℕ) → t ++ v ≡ s → t ≡ x ++ u → u ≡ (y ++ w) ++ f → s ≡ ((x ++ y) ++ w) ++ (f ++ v)
-regroup s t u v x y w f a b c = sym a ∙ rw (b, c) (simp append-assoc)
 
 -- ---- the fraction
 
@@ -94,7 +78,7 @@ module _ (s b xs : List ℕ) (k d m : ℕ) (v : Written (take (14 - d - k + 8 - 
 
 -- ---- a price
 
-module _ (columns : List ℕ) (price : Price) (value whole : ℕ) (h : Columned columns price value whole) where
+module _ (columns : List ℕ) (price : Price) (value whole : ℕ) (h : PriceColumns columns price value whole) where
   abbrev n : ℕ
   n = price .n
 
@@ -119,12 +103,8 @@ module _ (columns : List ℕ) (price : Price) (value whole : ℕ) (h : Columned 
 
     in-columns : (take k (drop (14 - d - k) columns) ≡ dollars full whole) × (take d (drop (14 - d) columns) ≡ places d n)
     in-columns =
-        let a = number-ends (take 14 columns) n (h .n-is) (omega (arith, big, one-le-pow d 10 (omega arith))) in
-        let b = dollars-end full whole z in
-        let t : List ℕ = drop 14 columns in
-        let l : length t ≡ 8 = omega (arith, length-drop 14 columns, h .size) in
-        let g : decimal n ≡ (b .head ++ dollars full whole) ++ places d n = decimal-parts d n big ∙ rw (← is-whole, b .whole) in
-        cut-out columns (a .head ++ b .head) (dollars full whole) (places d n) t d k (regroup columns (take 14 columns) (decimal n) t (a .head) (b .head) (dollars full whole) (places d n) (take-append-drop 14 columns) (a .whole) g) (h .size) l (length-places d n) e
+        let w : Ends (decimal (n / 10 ^ d)) (dollars full whole) = rw (← is-whole) (dollars-end full whole z) in
+        digits-in columns 14 d n (dollars full whole) k (omega (arith, h .size)) (h .n-is) big w e
 
     price-is : priceText full price ≡ dollars full whole ++ fractionText d (n % 10 ^ d)
     unfolding priceText fraction

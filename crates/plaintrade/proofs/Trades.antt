@@ -8,7 +8,7 @@ use mathlib.Core.List.{List, append-nil}
 use lib.Dec.{eqb}
 use borrow.Author.Tests.{not-true, not-false}
 use lib.ListN.{length, take, drop, length-take, length-drop}
-use lib.Seq.{take-take}
+use lib.Seq.{take-take, drop-drop}
 use Rattle.text.specs.Pick.{pick, opt}
 use Rattle.text.specs.Put.{Written}
 use Rattle.text.proofs.Writing.{written-nothing}
@@ -27,13 +27,14 @@ use Rattle.rules.specs.Conditions.{hasRule, afterName, afterPrice, atEnd}
 use Rattle.rules.specs.Qualifying.{forNeither, forRangeOnly, forRange, forLast}
 use Rattle.rules.specs.Trade.{six, firstQualifying, newHigh, newLow, newRange, unlikePrinted, farFromPrinted, fullPrice, showsVolume, printsAnyhow, printsTrade, tradeFull, tradeShows, highAfter, lowAfter, lastAfter, counted, afterTrade}
 use Rattle.trade.proofs.Short.{Short, side-short}
-use Rattle.symbol.proofs.Text.{name-short, name-most}
+use Rattle.symbol.proofs.Text.{name-most}
 use Rattle.table.specs.Rows.{row, withRow, nameOf}
 use Rattle.plainline.specs.declared.Plain.{Plain}
 use Rattle.plainline.specs.Plain.{noLetters, plainSide}
 use Rattle.plaintrade.specs.Plain.{tradeText, anyhow, plainRpo, plainMpv, byMode, plainPrints, plainFull, plainShows, plainAfter, plainPrint, priceOf, Ready, ReadFrom}
-use Rattle.plainprint.specs.Print.{plainText, Columned}
+use Rattle.plainprint.specs.Print.{plainText, PriceColumns, Columned}
 use Rattle.plainprint.proofs.Digits.{whole-units}
+use Rattle.text.proofs.Parts.{take-within}
 
 -- ---- by mode
 
@@ -84,7 +85,7 @@ module _ (names : List ℕ) (i : ℕ) where
   slot-length h l = rw (length-take, length-drop) (omega arith)
 
   pub slot-room : (temporary : Bool) (m : ℕ) → i < 512 → length names ≡ 9728 → 22 ≤ m → length (nameText temporary (cutOut names i)) ≤ m
-  slot-room temporary m h l k = omega (arith, name-short temporary (cutOut names i) (slot-length h l))
+  slot-room temporary m h l k = omega (arith, name-most temporary (cutOut names i))
 
   pub slot-written : (temporary : Bool) (b a : List ℕ) (r : ℕ) → Written (nameText temporary (cutOut names i)) b a r → Written (nameText temporary (nameOf names i)) b a r
   slot-written temporary b a r w = rw (← slot) w
@@ -142,13 +143,20 @@ unfolding units wholePart
 whole-is s p value h e = rw e (whole-units (p .n) (p .d) (h .price-is .decimals))
 
 -- the columns of the line that begin with the price's
-pub columned : (line : List ℕ) (s : Security) (p : Plain) (value : ℕ) → ReadFrom line p → Ready s p → value ≡ units (priceOf p) → Columned (take 22 (drop 15 line)) (priceOf p) value (value / 100000000)
-columned line s p value r h e = record {
+price-columned : (line : List ℕ) (s : Security) (p : Plain) (value : ℕ) → ReadFrom line p → Ready s p → value ≡ units (priceOf p) → PriceColumns (take 22 (drop 15 line)) (priceOf p) value (value / 100000000)
+price-columned line s p value r h e = record {
   size = rw (length-take, length-drop) (omega (arith, r .size));
   n-is = rw (take-take 14 22 (drop 15 line) (omega arith)) (r .n-is);
   sound = h .price-is;
   value-is = e;
   whole-is = whole-is s p value h e;
+}
+
+-- those that begin with the volume's
+pub columned : (line : List ℕ) (s : Security) (p : Plain) (value : ℕ) → ReadFrom line p → Ready s p → value ≡ units (priceOf p) → Columned (take 31 (drop 6 line)) (p .volume) (priceOf p) value (value / 100000000)
+columned line s p value r h e = record {
+  volume-columns = record { size = rw (length-take, length-drop) (omega (arith, r .size)); volume-is = rw (take-take 9 31 (drop 6 line) (omega arith)) (r .volume-is) };
+  price-columns = rw (take-within 22 9 31 (drop 6 line) (omega arith), drop-drop 9 6 line) (price-columned line s p value r h e);
 }
 
 -- no longer than the tape that is lent

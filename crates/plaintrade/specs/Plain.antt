@@ -80,7 +80,8 @@ pub record Ready (s : Security) (p : Plain) : Type 0 where
   pub unit-is : 1 ≤ s .unit
   pub price-is : Sound (priceOf p)
 
--- ---- the line that a trade was read from: n stands in its columns
+-- ---- the line that a trade was read from: volume and n stand in its columns
 pub record ReadFrom (line : List ℕ) (p : Plain) : Type 0 where
   pub size : length line ≡ 100
+  pub volume-is : numberIn (columns 7 15 line) ≡ Is (p .volume)
   pub n-is : numberIn (columns 16 29 line) ≡ Is (p .n)

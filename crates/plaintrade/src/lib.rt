@@ -131,7 +131,7 @@ pub fn write_name(buffer: &mut [u8], names: &[u8; 9728], place: usize, temporary
     symbol::write_name(buffer, &all[from..to], temporary)
 }
 
-// Where it prints. `value` is its price in units, and the line it was read from has the price's digits.
+// Where it prints. `value` is its price in units, and the line it was read from has the digits of volume and price.
 fn write_plain(
     rest: &mut [u8],
     names: &[u8; 9728],
@@ -163,7 +163,7 @@ fn write_plain(
         shows,
         p.volume,
         price,
-        &line[15..37],
+        &line[6..37],
         value,
         whole,
     )

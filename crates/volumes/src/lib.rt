@@ -148,7 +148,7 @@ fn write_tens(rest: &mut [u8], v: u64) -> usize
 }
 
 // Not round, or network B with unit below 100.
-fn is_in_shares(network: u64, unit: u64, v: u64) -> bool
+pub fn is_in_shares(network: u64, unit: u64, v: u64) -> bool
     requires { ⌜ 1 ≤ unit ⌝ }
     ensures { λ r. ⌜ r ≡ (not (isRound unit v) || (eqb network 66 && ltb unit 100)) ⌝ }
 {

@@ -6,8 +6,8 @@ use borrow.Author.Needs.{needs}
 use Rattle.plainprint.proofs.dollars_size.Statement.{statement}
 use Rattle.plainprint.proofs.dollars_size.Tie as tie
 
-whole-size-requires : tie.Need-whole-size-requires
-whole-size-requires c κs = search needs
+digits-size-requires : tie.Need-digits-size-requires
+digits-size-requires c κs = search needs
 
 returns : tie.Need-returns
 returns c = (search (choices, whole-digits), omega arith, omega arith)
@@ -16,4 +16,4 @@ returns-2 : tie.Need-returns-2
 returns-2 c = (search (choices, short-length), omega arith, omega arith)
 
 pub dollars-size-spec : {M : Type 1} → statement M
-dollars-size-spec = tie.close (tie.spec whole-size-requires returns returns-2)
+dollars-size-spec = tie.close (tie.spec digits-size-requires returns returns-2)

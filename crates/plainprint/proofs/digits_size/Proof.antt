@@ -1,8 +1,8 @@
 use borrow.Author.Needs.{needs}
 use native.Mathlib.Omega.{arith}
 use Rattle.plainprint.proofs.Digits.{six-limits}
-use Rattle.plainprint.proofs.whole_size.Statement.{statement}
-use Rattle.plainprint.proofs.whole_size.Tie as tie
+use Rattle.plainprint.proofs.digits_size.Statement.{statement}
+use Rattle.plainprint.proofs.digits_size.Tie as tie
 
 over-requires : tie.Need-over-requires
 over-requires c κs = search needs
@@ -37,8 +37,8 @@ add-result-5 c = search needs
 returns : tie.Need-returns
 returns c = (search six-limits, omega arith, omega arith)
 
-pub whole-size-spec : {M : Type 1} → statement M
-whole-size-spec =
+pub digits-size-spec : {M : Type 1} → statement M
+digits-size-spec =
     tie.close
     (tie.spec
     over-requires
