@@ -3,15 +3,17 @@ use Prim.Native.Nat.{ℕ, suc, _+_, _-_, _≤_, _<_}
 use native.Mathlib.Numerals.{add-one}
 use native.Mathlib.Omega.{arith}
 use mathlib.Core.Path.{_≡_, refl, sym, ap, _∙_}
+use mathlib.Core.Bool.{Bool, true, false, _&&_}
 use mathlib.Core.List.{List, [], _∷_, _++_}
-use lib.Dec.{eqb}
-use lib.ListN.{length, take, drop, getD, set, drop-of-length-le, length-take, length-drop}
-use lib.Seq.{drop-cons, take-all, getD-drop, getD-append-add}
-use borrow.Author.Tests.{eq-eqb, ne-eqb}
-use Rattle.text.specs.Pick.{pick}
+use lib.Dec.{eqb, ltb}
+use lib.ListN.{length, take, drop, getD, set, drop-of-length-le, length-take, length-drop, take-append-drop}
+use lib.Seq.{drop-cons, drop-drop, take-all, getD-drop, getD-append-add}
+use borrow.Author.Tests.{eq-eqb, ne-eqb, eqb-true, ltb-true, lt-ltb, le-ltb}
+use Rattle.text.specs.Pick.{pick, all}
 use Rattle.text.specs.Put.{put, Written}
 use Rattle.text.proofs.Writing.{store}
-use Rattle.blocks.specs.Lines.{lineLength, lineEnd}
+use Rattle.text.proofs.Texts.{and-left, and-right}
+use Rattle.blocks.specs.Lines.{lineLength, lineEnd, endsAt}
 
 pub length-feed : (c : ℕ) (s : List ℕ) → c ≡ 10 → lineLength (c ∷ s) ≡ 0
 unfolding lineLength pick
@@ -56,6 +58,35 @@ near-seen block from i near e z = absurd (omega arith)
 -- a step of 100 bytes
 pub near-step : (block : List ℕ) (i e near : ℕ) → (near ≡ 0 → lineEnd block (i + 100) ≡ lineEnd block i) → near ≡ 0 → lineEnd block i ≡ e → lineEnd block (i + 100) ≡ e
 near-step block i e near so z q = so z ∙ q
+
+-- ---- a line feed at a place
+
+module _ (block : List ℕ) (at : ℕ) where
+  pub ends-off : length block ≤ at → false ≡ endsAt block at
+  unfolding endsAt
+  ends-off l = rw (le-ltb at (length block) l)
+
+  pub ends-on : at < length block → eqb (getD block at 0) 10 ≡ endsAt block at
+  unfolding endsAt
+  ends-on l = rw (lt-ltb at (length block) l)
+
+-- bytes that pass a test which a line feed fails, and a line feed behind them
+module _ (test : ℕ → Bool) (fails : test 10 ≡ false) where
+  length-front : (l t : List ℕ) → all test l ≡ true → lineLength (l ++ 10 ∷ t) ≡ length l
+  unfolding all
+  length-front [] t h = length-feed 10 t refl
+  length-front (c ∷ l) t h =
+      let other : c ≡ 10 → ⊥ = λ e. absurd (let y : _≡_ {A = Bool} true false = sym (and-left (test c) (all test l) h) ∙ (ap test e ∙ fails) in let z : _≡_ {A = ℕ} 0 1 = cc in omega arith) in
+      rw (length-other c (l ++ 10 ∷ t) other, length-front l t (and-right (test c) (all test l) h))
+
+  pub line-at : (block : List ℕ) (at n : ℕ) → all test (take n (drop at block)) ≡ true → endsAt block (at + n) ≡ true → at + n ≡ lineEnd block at
+  unfolding lineEnd endsAt
+  line-at block at n h e =
+      let l : at + n < length block = ltb-true (at + n) (length block) (and-left (ltb (at + n) (length block)) _ e) in
+      let b : getD block (at + n) 0 ≡ 10 = eqb-true (getD block (at + n) 0) 10 (and-right (ltb (at + n) (length block)) _ e) in
+      let back : drop n (drop at block) ≡ 10 ∷ drop (suc (at + n)) block = drop-drop n at block ∙ (drop-cons block (at + n) 0 l ∙ ap (λ (c : ℕ). c ∷ drop (suc (at + n)) block) b) in
+      let whole : drop at block ≡ take n (drop at block) ++ (10 ∷ drop (suc (at + n)) block) = sym (take-append-drop n (drop at block)) ∙ ap (λ (z : List ℕ). take n (drop at block) ++ z) back in
+      omega (arith, ap lineLength whole, length-front (take n (drop at block)) (drop (suc (at + n)) block) h, length-take n (drop at block), length-drop at block)
 
 -- ---- moving to the front
 

@@ -1,8 +1,9 @@
 -- The lines of an input (document 01, "Day lines": the program's lines end in a line feed, the last may lack it). Assumes nothing.
 use Prim.Native.Nat.{ℕ, suc, _+_}
 use mathlib.Core.List.{List, [], _∷_, _++_}
-use lib.Dec.{eqb}
-use lib.ListN.{drop}
+use mathlib.Core.Bool.{Bool, _&&_}
+use lib.Dec.{eqb, ltb}
+use lib.ListN.{length, drop, getD}
 use Rattle.text.specs.Pick.{pick}
 
 -- how many bytes stand before the first line feed, or before the end
@@ -13,6 +14,10 @@ lineLength (c ∷ s) = pick (eqb c 10) 0 (suc (lineLength s))
 -- the place of the first line feed from a place on, or of the end
 unfoldable pub lineEnd : List ℕ → ℕ → ℕ
 lineEnd block from = from + lineLength (drop from block)
+
+-- a line feed stands at a place
+unfoldable pub endsAt : List ℕ → ℕ → Bool
+endsAt block at = ltb at (length block) && eqb (getD block at 0) 10
 
 -- bytes cut at the line feeds: the pieces that one ends, and what follows the last one
 pub record Cut : Type 0 where

@@ -4,7 +4,7 @@ ghost use mathlib.Core.Path.{_≡_};
 ghost use Prim.Native.Nat.{_+_, _-_, _≤_};
 ghost use lib.ListN.{length, drop};
 ghost use Rattle.text.specs.Put.{Written};
-ghost use Rattle.blocks.specs.Lines.{lineEnd};
+ghost use Rattle.blocks.specs.Lines.{lineEnd, endsAt};
 
 // 0 where no line feed stands in the 100 bytes from `from` on. It looks at all of them, so that they are compared at once.
 fn feed_near(block: &[u8], from: usize) -> u8
@@ -54,6 +54,16 @@ pub fn line_end(block: &[u8], from: usize) -> usize
         i += 1;
     }
     i
+}
+
+// A line feed stands at a place.
+pub fn ends_at(block: &[u8], at: usize) -> bool
+    ensures { λ r. ⌜ r ≡ endsAt (now (block .entry)) at ⌝ }
+{
+    if block.len() <= at {
+        return false;
+    }
+    block[at] == 10
 }
 
 // What follows a place, moved to the block's front: the start of a line whose end is yet to be read.
