@@ -33,7 +33,9 @@ use Rattle.planprint.proofs.Sound.{has-unit}
 use Rattle.engine.specs.declared.Outcome.the-variants.{Accepted}
 use Rattle.engine.specs.Calls.{PlainCall}
 use Rattle.planprint.specs.Print.{printedName, printText, textOf, fittedOf, printOf}
-use Rattle.engine.specs.Taken.{asked, outcomeOf, Taken}
+use Rattle.engine.specs.declared.Answer.{Answer}
+use Rattle.engine.specs.declared.PlainAnswer.{PlainAnswer}
+use Rattle.engine.specs.Taken.{asked, outcomeOf, Taken, PlainTaken}
 use Rattle.planstate.specs.After.{settingsAfter, tableAfter, namesAfter}
 
 -- ---- the line
@@ -147,3 +149,31 @@ module _ (st : Settings) (table names line tape : List ℕ) (p : Plain) (h : Pla
         names-is = names-plan ∙ ap (namesAfter names line) is;
         tape-is = w .tape ∙ (ap (λ (z : List ℕ). put z tape) (sym text-is) ∙ ap (λ (q : Plan). put (printOf st names q) tape) is);
       }
+
+  -- the answer of `take_plain`
+  pub plain-answer : table′ ≡ withRow table (p .security - 1) (afterTrade st (row table (p .security - 1)) (p .market) (plainSide (p .volume) (p .n) (p .d))) → PlainTaken st table names line tape table′ tape′ (record { taken = true; length = k })
+  plain-answer e =
+      record {
+        shaped = λ t. h .line-is .shaped;
+        taken-is = λ t. plain-taken e;
+        table-same = λ t. absurd (let y : _≡_ {A = ℕ} 0 1 = cc in omega arith);
+        tape-same = λ t. absurd (let y : _≡_ {A = ℕ} 0 1 = cc in omega arith);
+      }
+
+pub plain-none : (st : Settings) (table names line tape : List ℕ) → PlainTaken st table names line tape table tape (record { taken = false; length = 0 })
+plain-none st table names line tape =
+    record {
+      shaped = λ t. absurd (let y : _≡_ {A = ℕ} 0 1 = cc in omega arith);
+      taken-is = λ t. absurd (let y : _≡_ {A = ℕ} 0 1 = cc in omega arith);
+      table-same = λ t. refl;
+      tape-same = λ t. refl;
+    }
+
+-- a line that was asked for a plain trade
+module _ (st : Settings) (table names line tape table₁ tape₁ : List ℕ) (p : PlainAnswer) (h : PlainTaken st table names line tape table₁ tape₁ p) where
+  pub plain-done : p .taken ≡ true → Taken st table names line tape table₁ names tape₁ (record { outcome = Accepted (p .length); settings = st })
+  plain-done e = h .taken-is e
+
+  -- goes on as if it had not been
+  pub plain-passed : (table′ names′ tape′ : List ℕ) (a : Answer) → p .taken ≡ false → Taken st table₁ names line tape₁ table′ names′ tape′ a → Taken st table names line tape table′ names′ tape′ a
+  plain-passed table′ names′ tape′ a e t = rw (← h .table-same e, ← h .tape-same e) t

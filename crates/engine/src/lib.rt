@@ -20,7 +20,7 @@ ghost use Rattle.planner.specs.Plan.{SoundTrade};
 ghost use Rattle.engine.specs.declared.Outcome.the-variants.{Refused};
 ghost use Rattle.engine.specs.Calls.{PlainCall, TradeCall, answered};
 ghost use Rattle.planprint.specs.Print.{SoundPrint, printText};
-ghost use Rattle.engine.specs.Taken.{asked, outcomeOf, Taken};
+ghost use Rattle.engine.specs.Taken.{asked, outcomeOf, Taken, PlainTaken};
 
 // Accepted, with the length of its print, 0 where nothing prints; or refused.
 pub enum Outcome {
@@ -31,6 +31,12 @@ pub enum Outcome {
 pub struct Answer {
     pub outcome: Outcome,
     pub settings: Settings,
+}
+
+// Whether a line was taken as a plain trade, and the length of its print.
+pub struct PlainAnswer {
+    pub taken: bool,
+    pub length: usize,
 }
 
 fn outcome_of(p: Plan, n: usize) -> Outcome
@@ -207,8 +213,8 @@ fn take_other(
     }
 }
 
-// Every line but a plain trade.
-fn take_rest(
+// Any line by the way that every line can go: as `take_line`, which asks first for a plain trade.
+pub fn take_any(
     st: Settings,
     table: &mut [u64; 5632],
     names: &mut [u8; 9728],
@@ -223,6 +229,36 @@ fn take_rest(
     take_other(st, table, names, line, tape)
 }
 
+// A plain trade alone, where there is room for any print. With any other line nothing is done.
+pub fn take_plain(
+    st: Settings,
+    table: &mut [u64; 5632],
+    names: &[u8; 9728],
+    line: &[u8],
+    tape: &mut [u8],
+) -> PlainAnswer
+    ensures { λ r. ⌜ PlainTaken st (now (table .entry)) (now (names .entry)) (now (line .entry)) (now (tape .entry)) (now (table .exit)) (now (tape .exit)) r ⌝ }
+{
+    if tape.len() < 200 {
+        return PlainAnswer {
+            taken: false,
+            length: 0,
+        };
+    }
+    let p = plain_at(st, table, line);
+    if p.security < 1 {
+        return PlainAnswer {
+            taken: false,
+            length: 0,
+        };
+    }
+    let k = plaintrade::take_plain(st, table, names, p, line, tape);
+    PlainAnswer {
+        taken: true,
+        length: k,
+    }
+}
+
 // One call. Most lines are plain trades, and most tapes have room for any print.
 pub fn take_line(
     st: Settings,
@@ -233,16 +269,12 @@ pub fn take_line(
 ) -> Answer
     ensures { λ r. ⌜ Taken st (now (table .entry)) (now (names .entry)) (now (line .entry)) (now (tape .entry)) (now (table .exit)) (now (names .exit)) (now (tape .exit)) r ⌝ }
 {
-    if tape.len() < 200 {
-        return take_rest(st, table, names, line, tape);
-    }
-    let p = plain_at(st, table, line);
-    if 1 <= p.security {
-        let k = plaintrade::take_plain(st, table, names, p, line, tape);
+    let p = take_plain(st, table, names, line, tape);
+    if p.taken {
         return Answer {
-            outcome: Outcome::Accepted(k),
+            outcome: Outcome::Accepted(p.length),
             settings: st,
         };
     }
-    take_rest(st, table, names, line, tape)
+    take_any(st, table, names, line, tape)
 }

@@ -1,7 +1,7 @@
 use Rattle.engine.proofs.TradeCalls.{call-told}
 use borrow.Author.Needs.{needs}
-use Rattle.engine.proofs.take_rest.Statement.{statement}
-use Rattle.engine.proofs.take_rest.Tie as tie
+use Rattle.engine.proofs.take_any.Statement.{statement}
+use Rattle.engine.proofs.take_any.Tie as tie
 
 is-trade-requires : tie.Need-is-trade-requires
 is-trade-requires c κs = search needs
@@ -24,8 +24,8 @@ same-length-2 c = search needs
 returns-2 : tie.Need-returns-2
 returns-2 c = search needs
 
-pub take-rest-spec : {M : Type 1} → statement M
-take-rest-spec =
+pub take-any-spec : {M : Type 1} → statement M
+take-any-spec =
     tie.close
     (tie.spec
     is-trade-requires
