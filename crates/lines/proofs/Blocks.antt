@@ -13,7 +13,7 @@ use Rattle.text.specs.Put.{put, Written}
 use Rattle.text.proofs.Writing.{written-nothing, length-put}
 use Rattle.rules.specs.declared.Settings.{Settings}
 use Rattle.blocks.specs.Lines.{lineEnd, cut}
-use Rattle.lines.specs.Feed.{Progress, started, carried, lineTaken, roomLeft, linesTaken, blockTaken, Stands, Steps}
+use Rattle.lines.specs.Feed.{Progress, started, carried, lineTaken, roomLeft, linesTaken, blockTaken, Stands, Steps, Here, Runs, Onward}
 use Rattle.lines.specs.declared.Fed.{Fed}
 use Rattle.blocks.proofs.Cuts.{end-after, next-line, no-line}
 
@@ -46,12 +46,12 @@ module _ (tape refusals n k number : ℕ) (h : roomLeft tape refusals n k number
   room-told : 14 ≤ refusals - k
   room-told = leb-true 14 (refusals - k) (told-and-number .0)
 
-  room-number : number ≤ 9999999999
+  pub room-number : number ≤ 9999999999
   room-number = leb-true number 9999999999 (told-and-number .1)
 
--- ---- from turn to turn: the reading stands somewhere, and going on from there leads where the whole block leads
+-- ---- from turn to turn: the reading stands somewhere, its line ends at `end`, and going on from there leads where the whole block leads
 
-pub record Here (block tape₀ refusals₀ : List ℕ) (goal : Progress) (table names tape refusals : List ℕ) (f : Fed) (end : ℕ) : Type 0 where
+pub record Turn (block tape₀ refusals₀ : List ℕ) (goal : Progress) (table names tape refusals : List ℕ) (f : Fed) (end : ℕ) : Type 0 where
   pub p : Progress
   pub stands : Stands tape₀ refusals₀ p table names tape refusals f
   pub within : f .at ≤ length block
@@ -73,6 +73,25 @@ module _ {tape₀ refusals₀ table names tape refusals : List ℕ} {p : Progres
   room-same : roomLeft (length tape) (length refusals) (f .tape) (f .refusals) (f .number) ≡ roomLeft (length tape₀) (length refusals₀) (length (p .tape)) (length (p .refusals)) (p .number)
   room-same = rw (tape-length, refusals-length, s .tape-is .count-is, s .refusals-is .count-is, s .number-is)
 
+module _ {block tape₀ refusals₀ : List ℕ} {goal : Progress} {table names tape refusals : List ℕ} {f : Fed} where
+  pub turn-of : Here block tape₀ refusals₀ goal table names tape refusals f → (end : ℕ) → end ≡ lineEnd block (f .at) → Turn block tape₀ refusals₀ goal table names tape refusals f end
+  turn-of h end e =
+      let s = h .stands in
+      record {
+        p = h .p;
+        stands = s;
+        within = h .within;
+        end-is = e;
+        tape-in = omega (arith, tape-length s, s .tape-is .within);
+        refusals-in = omega (arith, refusals-length s, s .refusals-is .within);
+        tape-same = tape-length s;
+        refusals-same = refusals-length s;
+        onward = h .onward;
+      }
+
+  pub here-of : {end : ℕ} → Turn block tape₀ refusals₀ goal table names tape refusals f end → Here block tape₀ refusals₀ goal table names tape refusals f
+  here-of h = record { p = h .p; stands = h .stands; within = h .within; onward = h .onward }
+
 -- where a reading starts
 pub stands-start : (st : Settings) (table names tape refusals : List ℕ) (number : ℕ)
     → Stands tape refusals (started st table names number) table names tape refusals (record { settings = st; number = number; at = 0; tape = 0; refusals = 0 })
@@ -80,12 +99,12 @@ stands-start st table names tape refusals number =
     record { settings-is = refl; number-is = refl; at-is = refl; table-is = refl; names-is = refl; tape-is = written-nothing tape; refusals-is = written-nothing refusals }
 
 pub here-start : (block : List ℕ) (st : Settings) (table names tape refusals : List ℕ) (number end : ℕ) → end ≡ lineEnd block 0
-    → Here block tape refusals (blockTaken (length tape) (length refusals) block (started st table names number)) table names tape refusals (record { settings = st; number = number; at = 0; tape = 0; refusals = 0 }) end
+    → Turn block tape refusals (blockTaken (length tape) (length refusals) block (started st table names number)) table names tape refusals (record { settings = st; number = number; at = 0; tape = 0; refusals = 0 }) end
 unfolding blockTaken
 here-start block st table names tape refusals number end e =
     record { p = started st table names number; stands = stands-start st table names tape refusals number; within = omega arith; end-is = e; tape-in = omega arith; refusals-in = omega arith; tape-same = refl; refusals-same = refl; onward = refl }
 
-module _ (block tape₀ refusals₀ : List ℕ) (goal : Progress) (table names tape refusals : List ℕ) (f : Fed) (end : ℕ) (h : Here block tape₀ refusals₀ goal table names tape refusals f end) where
+module _ (block tape₀ refusals₀ : List ℕ) (goal : Progress) (table names tape refusals : List ℕ) (f : Fed) (end : ℕ) (h : Turn block tape₀ refusals₀ goal table names tape refusals f end) where
   pub here-from : f .at ≤ end
   here-from = end-after block (f .at) end (h .end-is) (h .within)
 
@@ -126,33 +145,50 @@ module _ (block tape₀ refusals₀ : List ℕ) (goal : Progress) (table names t
         pub here-number : f .number ≤ 9999999999
         here-number = room-number (length tape) (length refusals) (f .tape) (f .refusals) (f .number) holds
 
-        module _ (table′ names′ tape′ refusals′ : List ℕ) (r : Fed) (w : Steps (take (end - f .at) (drop (f .at) block)) table names tape refusals f table′ names′ tape′ refusals′ r) where
-          past : r .at ≡ end + 1
-          unfolding lineTaken carried
-          past =
-              let l : length (take (end - f .at) (drop (f .at) block)) ≡ end - f .at = simp (length-take, length-drop) (omega arith) in
-              w tape₀ refusals₀ (h .p) (h .stands) .at-is ∙ omega (arith, here-from, h .stands .at-is, l)
-
-          -- the line and its line feed are behind
+        -- the line, and the plain trades behind it
+        module _ (table′ names′ tape′ refusals′ : List ℕ) (r : Fed) (w : Onward block end table names tape refusals f table′ names′ tape′ refusals′ r) where
           pub here-less : length block - r .at < length block - f .at
-          here-less = omega (arith, past, here-from)
+          here-less = omega (arith, w .ahead, here-from)
 
-          -- one line more
-          pub here-on : (end′ : ℕ) → end′ ≡ lineEnd block (r .at) → Here block tape₀ refusals₀ goal table′ names′ tape′ refusals′ r end′
-          here-on end′ q =
-              let s = w tape₀ refusals₀ (h .p) (h .stands) in
-              let on = taken-on (length tape₀) (length refusals₀) line later (h .p) (sym (room-same (h .stands)) ∙ holds) in
-              record {
-                p = lineTaken (length tape₀) line (h .p);
-                stands = s;
-                within = omega (arith, past);
-                end-is = q;
-                tape-in = omega (arith, tape-length s, s .tape-is .within);
-                refusals-in = omega (arith, refusals-length s, s .refusals-is .within);
-                tape-same = tape-length s;
-                refusals-same = refusals-length s;
-                onward = rw past (sym on ∙ (ap (λ (ls : List (List ℕ)). linesTaken (length tape₀) (length refusals₀) ls (h .p)) (sym split) ∙ h .onward));
-              }
+          pub here-on : (end′ : ℕ) → end′ ≡ lineEnd block (r .at) → Turn block tape₀ refusals₀ goal table′ names′ tape′ refusals′ r end′
+          here-on end′ q = turn-of (w .to tape₀ refusals₀ goal (here-of h) (h .end-is) holds) end′ q
+
+-- ---- a line, from wherever the reading stands
+
+module _ (block tape₀ refusals₀ : List ℕ) (goal : Progress) (table names tape refusals : List ℕ) (f : Fed) (h : Here block tape₀ refusals₀ goal table names tape refusals f) (end : ℕ) (is : end ≡ lineEnd block (f .at)) (more : end < length block)
+    (room : roomLeft (length tape) (length refusals) (f .tape) (f .refusals) (f .number) ≡ true) (table′ names′ tape′ refusals′ : List ℕ) (r : Fed) (w : Steps (take (end - f .at) (drop (f .at) block)) table names tape refusals f table′ names′ tape′ refusals′ r) where
+  abbrev this : List ℕ
+  this = take (end - f .at) (drop (f .at) block)
+
+  abbrev others : List (List ℕ)
+  others = cut (drop (end + 1) block) .ended
+
+  past : r .at ≡ end + 1
+  unfolding lineTaken carried
+  past =
+      let l : length this ≡ end - f .at = simp (length-take, length-drop) (omega arith) in
+      w tape₀ refusals₀ (h .p) (h .stands) .at-is ∙ omega (arith, end-after block (f .at) end is (h .within), h .stands .at-is, l)
+
+  pub here-next : Here block tape₀ refusals₀ goal table′ names′ tape′ refusals′ r
+  here-next =
+      let on = taken-on (length tape₀) (length refusals₀) this others (h .p) (sym (room-same (h .stands)) ∙ room) in
+      let split = next-line block (f .at) end is (h .within) more in
+      record {
+        p = lineTaken (length tape₀) this (h .p);
+        stands = w tape₀ refusals₀ (h .p) (h .stands);
+        within = omega (arith, past);
+        onward = rw past (sym on ∙ (ap (λ (ls : List (List ℕ)). linesTaken (length tape₀) (length refusals₀) ls (h .p)) (sym split) ∙ h .onward));
+      }
+
+-- the line, then what runs behind it
+pub next-fed : (block : List ℕ) (f : Fed) (end : ℕ) (table names tape refusals table₁ names₁ tape₁ refusals₁ : List ℕ) (g : Fed) (table′ tape′ : List ℕ) (r : Fed)
+    → Steps (take (end - f .at) (drop (f .at) block)) table names tape refusals f table₁ names₁ tape₁ refusals₁ g → g .at ≡ end + 1 → Runs block names₁ refusals₁ table₁ tape₁ g table′ tape′ r → end < length block
+    → Onward block end table names tape refusals f table′ names₁ tape′ refusals₁ r
+next-fed block f end table names tape refusals table₁ names₁ tape₁ refusals₁ g table′ tape′ r w past on more =
+    record {
+      to = λ tape₀ refusals₀ goal h is room. on .to tape₀ refusals₀ goal (here-next block tape₀ refusals₀ goal table names tape refusals f h end is more room table₁ names₁ tape₁ refusals₁ g w);
+      ahead = omega (arith, on .ahead);
+    }
 
 -- ---- one line that no line feed ends
 

@@ -47,6 +47,14 @@ print-fits st table names line room = go (planOf st table names line) (ltb room 
     go p true e = omega arith
     go p false e = ltb-false room (length (textOf st (printedName names p) p)) e
 
+-- what a call puts on the tape fits it, and the tape stays as long as it was
+module _ (st : Settings) (table names line tape table′ names′ tape′ : List ℕ) (a : Answer) (t : Taken st table names line tape table′ names′ tape′ a) where
+  pub taken-fits : printed (a .outcome) ≤ length tape
+  taken-fits = omega (arith, ap printed (t .outcome) ∙ print-counted st names (asked st table names line (length tape)), print-fits st table names line (length tape))
+
+  pub taken-size : length tape′ ≡ length tape
+  taken-size = ap length (t .tape-is) ∙ length-put (printOf st names (asked st table names line (length tape))) tape (print-fits st table names line (length tape))
+
 -- a call, by what it was lent and what it answered: `n` bytes on the tape, `k` told
 module _ (st : Settings) (table names line tape table′ names′ ys : List ℕ) (a : Answer) (at n : ℕ) where
   -- the sum of the bytes on the tape fits
@@ -90,3 +98,31 @@ module _ (f : Fed) (block table names tape refusals table′ names′ ys zs : Li
         tape-is = named (cc) (then (s .tape-is) wrote);
         refusals-is = named (cc) (then (s .refusals-is) w);
       }
+
+-- and where the line leaves the reading
+module _ (f : Fed) (block table names tape refusals table′ names′ ys zs : List ℕ) (a : Answer) (end n k : ℕ) where
+  abbrev tape′ : List ℕ
+  tape′ = take (f .tape) tape ++ (ys ++ drop (length tape - f .tape) (drop (f .tape) tape))
+
+  abbrev refusals′ : List ℕ
+  refusals′ = take (f .refusals) refusals ++ (zs ++ drop (length refusals - f .refusals) (drop (f .refusals) refusals))
+
+  abbrev next : Fed
+  next = record { settings = a .settings; number = f .number + 1; at = end + 1; tape = f .tape + n; refusals = f .refusals + k }
+
+  pub line-gone : Taken (f .settings) table names (take (end - f .at) (drop (f .at) block)) (take (length tape - f .tape) (drop (f .tape) tape)) table′ names′ ys a
+      → n ≡ printed (a .outcome)
+      → Written (told (f .number) (a .outcome)) (take (length refusals - f .refusals) (drop (f .refusals) refusals)) zs k
+      → f .at ≤ end → end ≤ length block → f .tape ≤ length tape → 14 ≤ length refusals - f .refusals
+      → Steps (take (end - f .at) (drop (f .at) block)) table names tape refusals f table′ names′ tape′ refusals′ next × (end + 1 ≡ end + 1) × (f .tape + n ≤ length tape′) × (f .refusals + k ≤ length refusals′)
+  line-gone t c w l m lt lr =
+      let lent : List ℕ = take (length tape - f .tape) (drop (f .tape) tape) in
+      let free : List ℕ = take (length refusals - f .refusals) (drop (f .refusals) refusals) in
+      let size : length zs ≡ length free = ap length (w .tape) ∙ length-put (told (f .number) (a .outcome)) free (omega (arith, w .count-is, w .within)) in
+      let fits = taken-fits (f .settings) table names (take (end - f .at) (drop (f .at) block)) lent table′ names′ ys a t in
+      let same = taken-size (f .settings) table names (take (end - f .at) (drop (f .at) block)) lent table′ names′ ys a t in (
+        line-fed f block table names tape refusals table′ names′ ys zs a end n k t c w l m,
+        refl,
+        simp (length-append, length-take, length-drop) (omega (arith, fits, same, length-take (length tape - f .tape) (drop (f .tape) tape), length-drop (f .tape) tape)),
+        simp (length-append, length-take, length-drop) (omega (arith, size, w .within, length-take (length refusals - f .refusals) (drop (f .refusals) refusals), length-drop (f .refusals) refusals)),
+      )

@@ -1,10 +1,10 @@
 -- What a block of input does (document 01, "Shown facts and the whole day"): its lines go to the engine one after the other, prints and refusals are gathered. Assumes nothing.
-use Prim.Native.Nat.{ℕ, _+_, _-_}
+use Prim.Native.Nat.{ℕ, _+_, _-_, _≤_, _<_}
 use mathlib.Core.Path.{_≡_}
 use mathlib.Core.Bool.{Bool, true, false, _&&_}
 use mathlib.Core.List.{List, [], _∷_, _++_}
 use lib.Dec.{leb}
-use lib.ListN.{length}
+use lib.ListN.{length, drop}
 use Rattle.text.specs.Put.{Written}
 use Rattle.rules.specs.Refusal.{numberOf}
 use Rattle.rules.specs.declared.Settings.{Settings}
@@ -14,7 +14,7 @@ use Rattle.engine.specs.declared.Outcome.the-variants.{Accepted, Refused}
 use Rattle.engine.specs.Taken.{asked, outcomeOf}
 use Rattle.planprint.specs.Print.{printOf}
 use Rattle.planstate.specs.After.{settingsAfter, tableAfter, namesAfter}
-use Rattle.blocks.specs.Lines.{cut}
+use Rattle.blocks.specs.Lines.{lineEnd, cut}
 use Rattle.lines.specs.Refusals.{refusalLine}
 use Rattle.lines.specs.declared.Fed.{Fed}
 
@@ -92,3 +92,22 @@ abbrev pub Steps : List ℕ → List ℕ → List ℕ → List ℕ → List ℕ 
 Steps line table names tape refusals f table′ names′ tape′ refusals′ r =
     (tape₀ refusals₀ : List ℕ) (p : Progress) → Stands tape₀ refusals₀ p table names tape refusals f
     → Stands tape₀ refusals₀ (lineTaken (length tape₀) line p) table′ names′ tape′ refusals′ r
+
+-- the reading stands somewhere in the block, and going on from there leads to `goal`
+pub record Here (block tape₀ refusals₀ : List ℕ) (goal : Progress) (table names tape refusals : List ℕ) (f : Fed) : Type 0 where
+  pub p : Progress
+  pub stands : Stands tape₀ refusals₀ p table names tape refusals f
+  pub within : f .at ≤ length block
+  pub onward : linesTaken (length tape₀) (length refusals₀) (cut (drop (f .at) block) .ended) p ≡ goal
+
+-- lines of the block are taken from wherever the reading stands: it goes on to the same goal
+pub record Runs (block names refusals table tape : List ℕ) (f : Fed) (table′ tape′ : List ℕ) (r : Fed) : Type 0 where
+  pub to : (tape₀ refusals₀ : List ℕ) (goal : Progress) → Here block tape₀ refusals₀ goal table names tape refusals f → Here block tape₀ refusals₀ goal table′ names tape′ refusals r
+  pub ahead : f .at ≤ r .at
+
+-- so are the line that ends at `end`, where there is room for it, and others behind it
+pub record Onward (block : List ℕ) (end : ℕ) (table names tape refusals : List ℕ) (f : Fed) (table′ names′ tape′ refusals′ : List ℕ) (r : Fed) : Type 0 where
+  pub to : (tape₀ refusals₀ : List ℕ) (goal : Progress) → Here block tape₀ refusals₀ goal table names tape refusals f
+      → end ≡ lineEnd block (f .at) → roomLeft (length tape) (length refusals) (f .tape) (f .refusals) (f .number) ≡ true
+      → Here block tape₀ refusals₀ goal table′ names′ tape′ refusals′ r
+  pub ahead : end < r .at

@@ -5,12 +5,12 @@ use rules::Refusal;
 use rules::Settings;
 ghost use mathlib.Core.Path.{_≡_};
 ghost use mathlib.Core.List.{[], _∷_};
-ghost use Prim.Native.Nat.{_+_, _-_, _≤_};
+ghost use Prim.Native.Nat.{_+_, _-_, _≤_, _<_};
 ghost use lib.ListN.{length, take, drop};
 ghost use Rattle.text.specs.Put.{Written};
 ghost use Rattle.rules.specs.Refusal.{numberOf};
 ghost use Rattle.lines.specs.Refusals.{refusalLine};
-ghost use Rattle.lines.specs.Feed.{started, printed, told, roomLeft, linesTaken, blockTaken, Stands, Steps};
+ghost use Rattle.lines.specs.Feed.{started, printed, told, roomLeft, linesTaken, blockTaken, Stands, Steps, Runs, Onward};
 
 // Where the reading of a block stands: the settings, the number of the next line, the bytes of the block that are read,
 // the bytes on the lent tape and in the lent refusals.
@@ -93,7 +93,7 @@ fn room_left(f: Fed, tape: usize, refusals: usize) -> bool
     f.number <= 9999999999
 }
 
-// The line from where the reading stands up to `end`.
+// The line from where the reading stands up to `end`: most that come here are no plain trades.
 fn feed_line(
     f: Fed,
     table: &mut [u64; 5632],
@@ -104,14 +104,14 @@ fn feed_line(
     refusals: &mut [u8],
 ) -> Fed
     requires { ⌜ (f .at ≤ end) × (end ≤ length (now block)) × (f .tape ≤ length (now tape)) × (14 ≤ length (now refusals) - f .refusals) × (f .number ≤ 9999999999) ⌝ }
-    ensures { λ r. ⌜ Steps (take (end - f .at) (drop (f .at) (now (block .entry)))) (now (table .entry)) (now (names .entry)) (now (tape .entry)) (now (refusals .entry)) f (now (table .exit)) (now (names .exit)) (now (tape .exit)) (now (refusals .exit)) r ⌝ }
+    ensures { λ r. ⌜ Steps (take (end - f .at) (drop (f .at) (now (block .entry)))) (now (table .entry)) (now (names .entry)) (now (tape .entry)) (now (refusals .entry)) f (now (table .exit)) (now (names .exit)) (now (tape .exit)) (now (refusals .exit)) r × (r .at ≡ end + 1) × (r .tape ≤ length (now (tape .exit))) × (r .refusals ≤ length (now (refusals .exit))) ⌝ }
 {
     let next = end + 1;
     let at = f.at;
     let n = f.tape;
     let k = f.refusals;
     let st = f.settings;
-    let a = engine::take_line(st, table, names, &block[at..end], &mut tape[n..]);
+    let a = engine::take_any(st, table, names, &block[at..end], &mut tape[n..]);
     let settings = a.settings;
     let outcome = a.outcome;
     let on_tape = n + printed_length(outcome);
@@ -123,6 +123,56 @@ fn feed_line(
         tape: on_tape,
         refusals: in_refusals,
     }
+}
+
+// Plain trades from where the reading stands on, as many as follow one another. The line feed behind 100 bytes is not searched
+// for: a plain trade has none in it.
+fn feed_plain(
+    f: Fed,
+    table: &mut [u64; 5632],
+    names: &[u8; 9728],
+    block: &[u8],
+    tape: &mut [u8],
+    refusals: &[u8],
+) -> Fed
+    requires { ⌜ (f .at ≤ length (now block)) × (f .tape ≤ length (now tape)) × (f .refusals ≤ length (now refusals)) ⌝ }
+    ensures { λ r. ⌜ Runs (now (block .entry)) (now (names .entry)) (now (refusals .entry)) (now (table .entry)) (now (tape .entry)) f (now (table .exit)) (now (tape .exit)) r ⌝ }
+{
+    let st = f.settings;
+    let mut r = f;
+    while room_left(r, tape.len(), refusals.len()) {
+        let at = r.at;
+        let end = at + 100;
+        if !blocks::ends_at(block, end) {
+            return r;
+        }
+        let n = r.tape;
+        let p = engine::take_plain(st, table, names, &block[at..end], &mut tape[n..]);
+        if !p.taken {
+            return r;
+        }
+        r.number = r.number + 1;
+        r.at = end + 1;
+        r.tape = n + p.length;
+    }
+    r
+}
+
+// A line that a line feed ends, and the plain trades behind it.
+fn feed_next(
+    f: Fed,
+    table: &mut [u64; 5632],
+    names: &mut [u8; 9728],
+    block: &[u8],
+    end: usize,
+    tape: &mut [u8],
+    refusals: &mut [u8],
+) -> Fed
+    requires { ⌜ (f .at ≤ end) × (end < length (now block)) × (f .tape ≤ length (now tape)) × (14 ≤ length (now refusals) - f .refusals) × (f .number ≤ 9999999999) ⌝ }
+    ensures { λ r. ⌜ Onward (now (block .entry)) end (now (table .entry)) (now (names .entry)) (now (tape .entry)) (now (refusals .entry)) f (now (table .exit)) (now (names .exit)) (now (tape .exit)) (now (refusals .exit)) r ⌝ }
+{
+    let g = feed_line(f, table, names, block, end, tape, refusals);
+    feed_plain(g, table, names, block, tape, refusals)
 }
 
 // ---- a block
@@ -152,7 +202,7 @@ pub fn feed(
         if !room_left(f, tape.len(), refusals.len()) {
             return f;
         }
-        f = feed_line(f, table, names, block, end, tape, refusals);
+        f = feed_next(f, table, names, block, end, tape, refusals);
         let at = f.at;
         end = blocks::line_end(block, at);
     }

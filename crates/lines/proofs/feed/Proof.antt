@@ -2,13 +2,13 @@
 use Prim.Native.Nat.{_-_}
 use lib.ListN.{length}
 use Rattle.lines.specs.Feed.{started, blockTaken}
-use Rattle.lines.proofs.Blocks.{Here, here-start, here-end, here-stop, here-from, here-told, here-number, here-less, here-on}
+use Rattle.lines.proofs.Blocks.{Turn, here-start, here-end, here-stop, here-from, here-told, here-number, here-less, here-on}
 use borrow.Author.Needs.{needs}
 use Rattle.lines.proofs.feed.Statement.{statement}
 use Rattle.lines.proofs.feed.Tie as tie
 
 abbrev Inv-loop : tie.InvT-loop
-Inv-loop number table₀ names₀ block tape₀ refusals₀ f₀ end₀ table names tape refusals f end = Here block tape₀ refusals₀ (blockTaken (length tape₀) (length refusals₀) block (started (f₀ .settings) table₀ names₀ number)) table names tape refusals f end
+Inv-loop number table₀ names₀ block tape₀ refusals₀ f₀ end₀ table names tape refusals f end = Turn block tape₀ refusals₀ (blockTaken (length tape₀) (length refusals₀) block (started (f₀ .settings) table₀ names₀ number)) table names tape refusals f end
 
 abbrev μ-loop : tie.MeasureT-loop
 μ-loop number table₀ names₀ block tape₀ refusals₀ f₀ end₀ table names tape refusals f end = length block - f .at
@@ -31,8 +31,8 @@ same-length-2 c = c .before .before .before .loop .inv .refusals-same
 returns : tie.Need-returns Inv-loop μ-loop
 returns c = search here-stop
 
-feed-line-requires : tie.Need-feed-line-requires Inv-loop μ-loop
-feed-line-requires c κs = (search here-from, search needs, search needs, search here-told, search here-number)
+feed-next-requires : tie.Need-feed-next-requires Inv-loop μ-loop
+feed-next-requires c κs = (search here-from, search needs, search needs, search here-told, search here-number)
 
 line-end-requires-2 : tie.Need-line-end-requires-2 Inv-loop μ-loop
 line-end-requires-2 c κs = search needs
@@ -64,7 +64,7 @@ feed-spec =
     same-length
     same-length-2
     returns
-    feed-line-requires
+    feed-next-requires
     line-end-requires-2
     loop-less
     loop-again
