@@ -4,8 +4,9 @@ use native.Mathlib.Omega.{arith}
 use mathlib.Core.Path.{_≡_, refl, sym, ap, _∙_}
 use mathlib.Core.Bool.{Bool, true, false, _&&_, _||_, not}
 use lib.Dec.{eqb, leb, ltb}
-use borrow.Author.Tests.{lt-ltb, le-ltb, leb-true, leb-false}
+use borrow.Author.Tests.{lt-ltb, le-ltb, ltb-true, ltb-false, leb-true, leb-false, ne-eqb}
 use Rattle.text.specs.Pick.{pick}
+use Rattle.text.proofs.Booleans.{or-false}
 use Rattle.rules.specs.Price.{wholePart, units}
 use Rattle.rules.specs.Qualifying.{forRange, forLast}
 use Rattle.rules.specs.Trade.{atLevel, newHigh, newLow, fullPrice, printsAnyhow, unlikePrinted, distance, farFromPrinted, printsTrade, isNormal, highAfter, lowAfter, lastAfter, counted, afterTrade}
@@ -49,6 +50,17 @@ above a b m h = go (leb m ((a - b - 1) / 5000000)) refl
     go : (t : Bool) → leb m ((a - b - 1) / 5000000) ≡ t → t ≡ ltb (b + m * 5000000) a
     go true k = sym (lt-ltb (b + m * 5000000) a (omega (arith, leb-true m ((a - b - 1) / 5000000) k)))
     go false k = sym (le-ltb (b + m * 5000000) a (omega (arith, leb-false m ((a - b - 1) / 5000000) k)))
+
+-- far from it is the larger of two far above the smaller
+far-by : (v p d : ℕ) (t : Bool) → ltb v p ≡ t → ltb (pick t v p + d) (pick t p v) ≡ (ltb (p + d) v || ltb (v + d) p)
+unfolding pick
+far-by v p d true e = rw (le-ltb (p + d) v (omega (arith, ltb-true v p e)))
+far-by v p d false e = rw (le-ltb (v + d) p (omega (arith, ltb-false v p e))) (sym (or-false (ltb (p + d) v)))
+
+pub far-either : (st : Settings) (s : Security) (value m l : ℕ) (r : Bool) → (s .printed ≡ 0 → ⊥) → m ≡ pick (ltb value (s .printed)) (s .printed) value → l ≡ pick (ltb value (s .printed)) value (s .printed)
+    → r ≡ ltb (l + st .minimum * 5000000) m → r ≡ farFromPrinted st s value
+unfolding farFromPrinted distance
+far-either st s value m l r h e f g = rw (ne-eqb (s .printed) 0 h) (rw (e, f) at g ∙ far-by value (s .printed) (st .minimum * 5000000) (ltb value (s .printed)) refl)
 
 -- ---- by mode
 

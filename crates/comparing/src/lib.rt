@@ -9,6 +9,7 @@ ghost use mathlib.Core.Path.{_≡_};
 ghost use mathlib.Core.Bool.{not};
 ghost use Prim.Native.Nat.{_+_, _*_, _<_};
 ghost use lib.Dec.{eqb, ltb};
+ghost use Rattle.text.specs.Pick.{pick};
 ghost use Rattle.rules.specs.Trade.{six, atLevel, firstQualifying, newHigh, newLow, newRange, tens, endsInZero, dollars, unlikePrinted, farFromPrinted, isNormal};
 ghost use Rattle.prices.specs.Sound.{Sound};
 ghost use Rattle.comparing.specs.Parts.{newAt, lastUnlike, lastFar};
@@ -110,17 +111,34 @@ fn far_above(a: u64, b: u64, m: u64) -> bool
     m <= (a - b - 1) / 5000000
 }
 
-// More than level × 0.05 dollars from the last printed.
+// The larger of two.
+fn most(a: u64, b: u64) -> u64
+    ensures { λ r. ⌜ r ≡ pick (ltb a b) b a ⌝ }
+{
+    if a < b {
+        return b;
+    }
+    a
+}
+
+// The smaller of two.
+fn least(a: u64, b: u64) -> u64
+    ensures { λ r. ⌜ r ≡ pick (ltb a b) a b ⌝ }
+{
+    if a < b {
+        return a;
+    }
+    b
+}
+
+// More than level × 0.05 dollars from the last printed, above it or below.
 pub fn far_from_printed(st: Settings, s: Security, value: u64) -> bool
     ensures { λ r. ⌜ r ≡ farFromPrinted st s value ⌝ }
 {
     if s.printed == 0 {
         return false;
     }
-    if far_above(value, s.printed, st.minimum) {
-        return true;
-    }
-    far_above(s.printed, value, st.minimum)
+    far_above(most(value, s.printed), least(value, s.printed), st.minimum)
 }
 
 // Qualifying for last with a price unlike the last printed.
