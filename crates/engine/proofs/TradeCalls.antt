@@ -10,7 +10,7 @@ use borrow.Author.Tests.{le-ltb, ne-eqb, eqb-true, not-true, not-false}
 use Rattle.text.proofs.Texts.{and-left}
 use Rattle.text.specs.Put.{put, Written}
 use Rattle.text.specs.Pick.{pick, among}
-use Rattle.text.proofs.Parts.{opt-most, front}
+use Rattle.text.proofs.Parts.{opt-most}
 use Rattle.text.proofs.Booleans.{and-false}
 use Rattle.rules.specs.Columns.{column}
 use Rattle.rules.specs.Conditions.{onNetwork}
@@ -28,6 +28,8 @@ use Rattle.table.specs.Rows.{row, withRow, nameOf}
 use Rattle.trade.proofs.Short.{Short, side-short}
 use Rattle.dayline.specs.declared.TradeRead.{TradeRead}
 use Rattle.dayline.specs.Fields.{tradeRead}
+use Rattle.plainprint.specs.Laid.{Laid}
+use Rattle.plainprint.proofs.Layers.{cut}
 use Rattle.planner.specs.declared.TradePlan.{TradePlan}
 use Rattle.planner.specs.declared.Plan.{Plan}
 use Rattle.planner.specs.declared.Plan.the-variants.{Stop, Print}
@@ -256,8 +258,8 @@ print-room name t m h v n d p l k =
     let x : Short (t .side) = record { volume-is = v; price-is = n; decimals-are = h .price-is; days-are = d; previous-is = p; previous-decimals = h .previous-is } in
     opt-most (t .prints) _ m (omega (arith, side-short (t .side) x name (t .network) (t .unit) (t .full) (t .shows), l, k))
 
-pub named-print : (u b a tape tape′ : List ℕ) (n k : ℕ) (t : TradePlan) → Written u b a n → Written (printText (take n a) t) tape tape′ k → Written (printText u t) tape tape′ k
-named-print u b a tape tape′ n k t v w = rw (front v) at w
+pub named-print : (u b a tape tape′ : List ℕ) (n k : ℕ) (t : TradePlan) → Laid u b a n → Written (printText (take n a) t) tape tape′ k → Written (printText u t) tape tape′ k
+named-print u b a tape tape′ n k t v w = rw (cut v) at w
 
 pub call-told : (st : Settings) (line : List ℕ) (room : ℕ) (r : Bool) → (r ≡ true → TradeCall st line room) → r ≡ true → TradeCall st line room
 call-told st line room r f e = f e

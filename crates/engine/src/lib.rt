@@ -76,7 +76,7 @@ pub fn ask_line(
 {
     let p = planner::plan_line(st, table, names, line);
     let mut buffer = [0u8; 22];
-    let n = planprint::write_printed_name(&mut buffer, names, line, p);
+    let n = planprint::lay_printed_name(&mut buffer, names, line, p);
     planprint::fitted(st, &buffer[..n], line, p, room)
 }
 
@@ -132,7 +132,7 @@ fn take_print(table: &mut [u64; 5632], names: &[u8; 9728], t: TradePlan, tape: &
     let mut buffer = [0u8; 22];
     let place = t.place;
     let after = t.after;
-    let n = plaintrade::write_name(&mut buffer, names, place, t.temporary);
+    let n = plaintrade::lay_name(&mut buffer, names, place, t.temporary);
     table::store(table, place, after);
     planprint::write_print(tape, &buffer[..n], t)
 }
@@ -202,7 +202,7 @@ fn take_other(
 {
     let asked = planner::plan_line(st, table, names, line);
     let mut buffer = [0u8; 22];
-    let n = planprint::write_printed_name(&mut buffer, names, line, asked);
+    let n = planprint::lay_printed_name(&mut buffer, names, line, asked);
     let p = planprint::fitted(st, &buffer[..n], line, asked, tape.len());
     let k = planprint::write_text(tape, st, &buffer[..n], line, p);
     planstate::update_table(table, line, p);

@@ -78,7 +78,7 @@ laid-part {b} {a} {m} s from k j w h l =
 
 -- ---- what is laid, cut out and written
 
-cut : {t b xs : List ℕ} {n : ℕ} → Laid t b xs n → take n xs ≡ t
+pub cut : {t b xs : List ℕ} {n : ℕ} → Laid t b xs n → take n xs ≡ t
 cut {t} {b} {xs} {n} v = rw (v .count-is) (v .front)
 
 pub cut-length : {t b xs : List ℕ} {n : ℕ} → Laid t b xs n → n ≡ length (take n xs)

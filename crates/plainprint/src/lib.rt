@@ -87,7 +87,7 @@ fn lay_shown(rest: &mut [u8], field: &[u8], shown: bool) -> usize
 }
 
 // Root, suffix, temporary suffix where it is shown, appendage.
-fn lay_name(rest: &mut [u8], name: &[u8], temporary: bool) -> usize
+pub fn lay_name(rest: &mut [u8], name: &[u8], temporary: bool) -> usize
     requires { ⌜ (length (now name) ≡ 19) × (22 ≤ length (now rest)) ⌝ }
     ensures { λ r. ⌜ Laid (nameText temporary (now (name .entry))) (now (rest .entry)) (now (rest .exit)) r × (r ≤ 22) ⌝ }
 {

@@ -32,6 +32,7 @@ use Rattle.table.specs.Rows.{row, withRow, nameOf}
 use Rattle.plainline.specs.declared.Plain.{Plain}
 use Rattle.plainline.specs.Plain.{noLetters, plainSide}
 use Rattle.plaintrade.specs.Plain.{tradeText, anyhow, plainRpo, plainMpv, byMode, plainPrints, plainFull, plainShows, plainAfter, plainPrint, priceOf, Ready, ReadFrom}
+use Rattle.plainprint.specs.Laid.{Laid}
 use Rattle.plainprint.specs.Print.{plainText, PriceColumns, Columned}
 use Rattle.plainprint.proofs.Digits.{whole-units}
 use Rattle.text.proofs.Parts.{take-within}
@@ -84,11 +85,8 @@ module _ (names : List ℕ) (i : ℕ) where
   pub slot-length : i < 512 → length names ≡ 9728 → length (cutOut names i) ≡ 19
   slot-length h l = rw (length-take, length-drop) (omega arith)
 
-  pub slot-room : (temporary : Bool) (m : ℕ) → i < 512 → length names ≡ 9728 → 22 ≤ m → length (nameText temporary (cutOut names i)) ≤ m
-  slot-room temporary m h l k = omega (arith, name-most temporary (cutOut names i))
-
-  pub slot-written : (temporary : Bool) (b a : List ℕ) (r : ℕ) → Written (nameText temporary (cutOut names i)) b a r → Written (nameText temporary (nameOf names i)) b a r
-  slot-written temporary b a r w = rw (← slot) w
+  pub slot-laid : (temporary : Bool) (b a : List ℕ) (r : ℕ) → Laid (nameText temporary (cutOut names i)) b a r → Laid (nameText temporary (nameOf names i)) b a r
+  slot-laid temporary b a r w = rw (← slot) w
 
 -- ---- what `rules` says of a side without letters
 

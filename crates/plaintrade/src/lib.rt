@@ -14,6 +14,7 @@ ghost use Rattle.rules.specs.Price.{units};
 ghost use Rattle.rules.specs.Trade.{afterTrade};
 ghost use Rattle.table.specs.Rows.{row, withRow, nameOf};
 ghost use Rattle.plainline.specs.Plain.{plainSide};
+ghost use Rattle.plainprint.specs.Laid.{Laid};
 ghost use Rattle.plaintrade.specs.Plain.{anyhow, plainRpo, plainMpv, plainPrints, plainFull, plainShows, plainAfter, plainPrint, tradeText, priceOf, Ready, ReadFrom};
 
 // ---- what prints
@@ -121,14 +122,14 @@ fn after_plain(s: Security, market: u64, value: u64, prints: bool) -> Security
 // ---- the print
 
 // The name at a place, with its temporary suffix or without.
-pub fn write_name(buffer: &mut [u8], names: &[u8; 9728], place: usize, temporary: bool) -> usize
+pub fn lay_name(buffer: &mut [u8], names: &[u8; 9728], place: usize, temporary: bool) -> usize
     requires { ⌜ (place < 512) × (22 ≤ length (now buffer)) ⌝ }
-    ensures { λ r. ⌜ Written (nameText temporary (nameOf (now (names .entry)) place)) (now (buffer .entry)) (now (buffer .exit)) r ⌝ }
+    ensures { λ r. ⌜ Laid (nameText temporary (nameOf (now (names .entry)) place)) (now (buffer .entry)) (now (buffer .exit)) r ⌝ }
 {
     let all = &names[..];
     let from = place * 19;
     let to = from + 19;
-    symbol::write_name(buffer, &all[from..to], temporary)
+    plainprint::lay_name(buffer, &all[from..to], temporary)
 }
 
 // Where it prints. `value` is its price in units, and the line it was read from has the digits of volume and price.

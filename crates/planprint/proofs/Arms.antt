@@ -14,6 +14,8 @@ use Rattle.rules.specs.declared.Refusal.{Refusal}
 use Rattle.rules.specs.declared.Settings.{Settings}
 use Rattle.rules.specs.declared.Security.{Security}
 use Rattle.table.specs.Rows.{nameOf}
+use Rattle.plainprint.specs.Laid.{Laid}
+use Rattle.plainprint.proofs.Layers.{laid-nothing}
 use Rattle.planner.specs.declared.TradePlan.{TradePlan}
 use Rattle.planner.specs.declared.CancelPlan.{CancelPlan}
 use Rattle.planner.specs.declared.CorrectionPlan.{CorrectionPlan}
@@ -24,29 +26,29 @@ use Rattle.planprint.specs.Print.{printedName, printText, cancelled, cor
 -- ---- the name that prints: of a trade's plan only
 
 module _ (names : List ℕ) (p : Plan) where
-  pub name-stop : (r : Refusal) (b : List ℕ) → p ≡ Stop r → Written (printedName names p) b b 0
+  pub name-stop : (r : Refusal) (b : List ℕ) → p ≡ Stop r → Laid (printedName names p) b b 0
   unfolding printedName
-  name-stop r b e = rw e (written-nothing b)
+  name-stop r b e = rw e (laid-nothing b)
 
-  pub name-open : (n : ℕ) (b : List ℕ) → p ≡ Open n → Written (printedName names p) b b 0
+  pub name-open : (n : ℕ) (b : List ℕ) → p ≡ Open n → Laid (printedName names p) b b 0
   unfolding printedName
-  name-open n b e = rw e (written-nothing b)
+  name-open n b e = rw e (laid-nothing b)
 
-  pub name-enter : (i : ℕ) (s : Security) (b : List ℕ) → p ≡ Enter i s → Written (printedName names p) b b 0
+  pub name-enter : (i : ℕ) (s : Security) (b : List ℕ) → p ≡ Enter i s → Laid (printedName names p) b b 0
   unfolding printedName
-  name-enter i s b e = rw e (written-nothing b)
+  name-enter i s b e = rw e (laid-nothing b)
 
-  pub name-change : (m : Mode) (b : List ℕ) → p ≡ Change m → Written (printedName names p) b b 0
+  pub name-change : (m : Mode) (b : List ℕ) → p ≡ Change m → Laid (printedName names p) b b 0
   unfolding printedName
-  name-change m b e = rw e (written-nothing b)
+  name-change m b e = rw e (laid-nothing b)
 
-  pub name-level : (n : ℕ) (b : List ℕ) → p ≡ Level n → Written (printedName names p) b b 0
+  pub name-level : (n : ℕ) (b : List ℕ) → p ≡ Level n → Laid (printedName names p) b b 0
   unfolding printedName
-  name-level n b e = rw e (written-nothing b)
+  name-level n b e = rw e (laid-nothing b)
 
-  pub name-step : (n : ℕ) (b : List ℕ) → p ≡ Step n → Written (printedName names p) b b 0
+  pub name-step : (n : ℕ) (b : List ℕ) → p ≡ Step n → Laid (printedName names p) b b 0
   unfolding printedName
-  name-step n b e = rw e (written-nothing b)
+  name-step n b e = rw e (laid-nothing b)
 
   pub name-print : (t : TradePlan) → p ≡ Print t → printedName names p ≡ nameText (t .temporary) (nameOf names (t .place))
   unfolding printedName

@@ -10,13 +10,14 @@ ghost use mathlib.Core.Path.{_≡_};
 ghost use Prim.Native.Nat.{_≤_};
 ghost use lib.ListN.{length};
 ghost use Rattle.text.specs.Put.{Written};
+ghost use Rattle.plainprint.specs.Laid.{Laid};
 ghost use Rattle.planprint.specs.Print.{SoundPrint, SoundCancel, SoundCorrect, SoundPlan, printedName, printText, cancelled, corrected, textOf, fittedOf};
 
 // ---- the name as it prints
 
-pub fn write_printed_name(buffer: &mut [u8], names: &[u8; 9728], line: &[u8], p: Plan) -> usize
+pub fn lay_printed_name(buffer: &mut [u8], names: &[u8; 9728], line: &[u8], p: Plan) -> usize
     requires { ⌜ SoundPlan (now line) p × (22 ≤ length (now buffer)) ⌝ }
-    ensures { λ r. ⌜ Written (printedName (now (names .entry)) p) (now (buffer .entry)) (now (buffer .exit)) r ⌝ }
+    ensures { λ r. ⌜ Laid (printedName (now (names .entry)) p) (now (buffer .entry)) (now (buffer .exit)) r ⌝ }
 {
     match p {
         Plan::Stop(_) => 0,
@@ -25,9 +26,9 @@ pub fn write_printed_name(buffer: &mut [u8], names: &[u8; 9728], line: &[u8], p:
         Plan::Change(_) => 0,
         Plan::Level(_) => 0,
         Plan::Step(_) => 0,
-        Plan::Print(t) => plaintrade::write_name(buffer, names, t.place, t.temporary),
-        Plan::Cancel(t) => plaintrade::write_name(buffer, names, t.place, false),
-        Plan::Correct(c) => plaintrade::write_name(buffer, names, c.place, false),
+        Plan::Print(t) => plaintrade::lay_name(buffer, names, t.place, t.temporary),
+        Plan::Cancel(t) => plaintrade::lay_name(buffer, names, t.place, false),
+        Plan::Correct(c) => plaintrade::lay_name(buffer, names, c.place, false),
     }
 }
 

@@ -2,24 +2,24 @@ use Rattle.planprint.proofs.Sound.{sound-asked}
 use Rattle.engine.proofs.Steps.{front-short, taken}
 use Rattle.planprint.proofs.Room.{fitted-sound, fitted-room}
 use borrow.Author.Needs.{needs}
-use Rattle.text.proofs.Parts.{front-length}
+use Rattle.plainprint.proofs.Layers.{cut-length}
 use Rattle.engine.proofs.take_other.Statement.{statement}
 use Rattle.engine.proofs.take_other.Tie as tie
 
 plan-line-requires : tie.Need-plan-line-requires
 plan-line-requires c κs = search needs
 
-slice-aggregate-write-printed-name : tie.Need-slice-aggregate-write-printed-name
-slice-aggregate-write-printed-name c = search needs
+slice-aggregate-lay-printed-name : tie.Need-slice-aggregate-lay-printed-name
+slice-aggregate-lay-printed-name c = search needs
 
-write-printed-name-requires : tie.Need-write-printed-name-requires
-write-printed-name-requires c κs = (search sound-asked, search needs)
+lay-printed-name-requires : tie.Need-lay-printed-name-requires
+lay-printed-name-requires c κs = (search sound-asked, search needs)
 
 array-share-prefix-buffer : tie.Need-array-share-prefix-buffer
 array-share-prefix-buffer c = search needs
 
 slice-aggregate-fitted : tie.Need-slice-aggregate-fitted
-slice-aggregate-fitted c = search front-length
+slice-aggregate-fitted c = search cut-length
 
 fitted-requires : tie.Need-fitted-requires
 fitted-requires c κs = (search sound-asked, search front-short)
@@ -28,7 +28,7 @@ array-share-prefix-buffer-2 : tie.Need-array-share-prefix-buffer-2
 array-share-prefix-buffer-2 c = search needs
 
 slice-aggregate-write-text : tie.Need-slice-aggregate-write-text
-slice-aggregate-write-text c = search front-length
+slice-aggregate-write-text c = search cut-length
 
 write-text-requires : tie.Need-write-text-requires
 write-text-requires c κs = (search (fitted-sound, sound-asked), search fitted-room)
@@ -56,8 +56,8 @@ take-other-spec =
     tie.close
     (tie.spec
     plan-line-requires
-    slice-aggregate-write-printed-name
-    write-printed-name-requires
+    slice-aggregate-lay-printed-name
+    lay-printed-name-requires
     array-share-prefix-buffer
     slice-aggregate-fitted
     fitted-requires
