@@ -1,3 +1,4 @@
 pub mod Arms
 pub mod Sound
 pub mod Room
+pub mod Most

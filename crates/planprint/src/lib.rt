@@ -88,6 +88,9 @@ pub fn fitted(st: Settings, name: &[u8], line: &[u8], p: Plan, room: usize) -> P
     requires { ⌜ SoundPlan (now line) p × (length (now name) ≤ 22) ⌝ }
     ensures { λ r. ⌜ r ≡ fittedOf st (now (name .entry)) p room ⌝ }
 {
+    if 400 <= room {
+        return p; // no print is longer
+    }
     if room < text_length(st, name, line, p) {
         return Plan::Stop(Refusal::Room);
     }

@@ -1,16 +1,23 @@
+use native.Mathlib.Omega.{arith}
 use Rattle.planprint.proofs.Room.{told-short, told-fits}
+use Rattle.planprint.proofs.Most.{any-fits}
 use borrow.Author.Needs.{needs}
 use Rattle.planprint.proofs.fitted.Statement.{statement}
 use Rattle.planprint.proofs.fitted.Tie as tie
 
+returns : tie.Need-returns
+returns c =
+    let s = c .before .before .before in
+    any-fits (s .args .st) (s .args .name .now) (s .args .line .now) _ (omega (arith, s .good .0)) (search needs) (s .args .p) (s .args .room) (s .good .1 .1 .1 .0) (search needs) (search needs)
+
 text-length-requires : tie.Need-text-length-requires
 text-length-requires c κs = search needs
 
-returns : tie.Need-returns
-returns c = search told-short
-
 returns-2 : tie.Need-returns-2
-returns-2 c = search told-fits
+returns-2 c = search told-short
+
+returns-3 : tie.Need-returns-3
+returns-3 c = search told-fits
 
 pub fitted-spec : {M : Type 1} → statement M
-fitted-spec = tie.close (tie.spec text-length-requires returns returns-2)
+fitted-spec = tie.close (tie.spec returns text-length-requires returns-2 returns-3)
