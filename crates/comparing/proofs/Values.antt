@@ -111,15 +111,20 @@ module _ (s : Security) (x : Side) (v : ℕ) (q n : Bool) (r : ℕ) where
   unfolding lowAfter
   low-moved a b c e = rw (← a, ← b, ← c) e
 
-pub traded : (st : Settings) (s : Security) (market : ℕ) (x : Side) (printed high low last trades qualified primaries : ℕ) (q : Bool)
-    → printed ≡ pick (printsTrade st s market x) (units (x .price)) (s .printed)
-    → high ≡ highAfter s x
-    → low ≡ lowAfter s x
-    → last ≡ lastAfter s x
+pub traded : (st : Settings) (s : Security) (market : ℕ) (x : Side) (value : ℕ) (prints ranges lasts highest lowest : Bool) (printed high low last trades qualified primaries : ℕ)
+    → value ≡ units (x .price)
+    → prints ≡ printsTrade st s market x
+    → ranges ≡ forRange (x .letters)
+    → lasts ≡ forLast (x .letters)
+    → highest ≡ newHigh s value
+    → lowest ≡ newLow s value
+    → printed ≡ pick (true && prints) value (s .printed)
+    → high ≡ pick (ranges && highest) value (s .high)
+    → low ≡ pick (ranges && lowest) value (s .low)
+    → last ≡ pick (true && lasts) value (s .last)
     → trades ≡ counted true 5 (s .trades)
-    → q ≡ forLast (x .letters)
-    → qualified ≡ counted q 1 (s .qualified)
+    → qualified ≡ counted lasts 1 (s .qualified)
     → primaries ≡ counted (eqb market (s .market)) 6 (s .primaries)
     → (record { unit = s .unit; network = s .network; market = s .market; first = s .first; printed = printed; high = high; low = low; last = last; trades = trades; qualified = qualified; primaries = primaries }) ≡ afterTrade st s market x
-unfolding afterTrade
-traded st s market x printed high low last trades qualified primaries q e1 e2 e3 e4 e5 e6 e7 e8 = rw (e1, e2, e3, e4, e5, e7, e6, e8)
+unfolding afterTrade highAfter lowAfter lastAfter
+traded st s market x value prints ranges lasts highest lowest printed high low last trades qualified primaries v p q l h w e1 e2 e3 e4 e5 e6 e7 = rw (e1, e2, e3, e4, e5, e6, e7, h, w, p, q, l, v)

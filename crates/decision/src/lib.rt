@@ -203,17 +203,6 @@ pub fn last_after(s: Security, x: Side) -> u64
     prices::in_units(price)
 }
 
-fn printed_after(st: Settings, s: Security, market: u64, x: Side) -> u64
-    requires { ⌜ Sound (x .price) ⌝ }
-    ensures { λ r. ⌜ r ≡ pick (printsTrade st s market x) (units (x .price)) (s .printed) ⌝ }
-{
-    let price = x.price;
-    if !prints_trade(st, s, market, x) {
-        return s.printed;
-    }
-    prices::in_units(price)
-}
-
 // A count that stops where it no longer matters.
 pub fn counted(test: bool, most: u64, count: u64) -> u64
     requires { ⌜ most < 1000 ⌝ }
@@ -234,17 +223,22 @@ pub fn after_trade(st: Settings, s: Security, market: u64, x: Side) -> Security
     ensures { λ r. ⌜ r ≡ afterTrade st s market x ⌝ }
 {
     let letters = x.letters;
+    let price = x.price;
+    let value = prices::in_units(price);
+    let prints = prints_trade(st, s, market, x);
+    let ranges = qualifying::for_range(letters);
+    let lasts = qualifying::for_last(letters);
     Security {
         unit: s.unit,
         network: s.network,
         market: s.market,
         first: s.first,
-        printed: printed_after(st, s, market, x),
-        high: high_after(s, x),
-        low: low_after(s, x),
-        last: last_after(s, x),
+        printed: moved(true, prints, value, s.printed),
+        high: moved(ranges, comparing::new_high(s, value), value, s.high),
+        low: moved(ranges, comparing::new_low(s, value), value, s.low),
+        last: moved(true, lasts, value, s.last),
         trades: counted(true, 5, s.trades),
-        qualified: counted(qualifying::for_last(letters), 1, s.qualified),
+        qualified: counted(lasts, 1, s.qualified),
         primaries: counted(market == s.market, 6, s.primaries),
     }
 }

@@ -3,23 +3,38 @@ use borrow.Author.Needs.{needs}
 use Rattle.decision.proofs.after_trade.Statement.{statement}
 use Rattle.decision.proofs.after_trade.Tie as tie
 
-printed-after-requires : tie.Need-printed-after-requires
-printed-after-requires c κs = search needs
+in-units-requires : tie.Need-in-units-requires
+in-units-requires c κs = search needs
 
-high-after-requires : tie.Need-high-after-requires
-high-after-requires c κs = search needs
+prints-trade-requires : tie.Need-prints-trade-requires
+prints-trade-requires c κs = search needs
 
-low-after-requires : tie.Need-low-after-requires
-low-after-requires c κs = search needs
-
-last-after-requires : tie.Need-last-after-requires
-last-after-requires c κs = search needs
-
-counted-requires : tie.Need-counted-requires
-counted-requires c κs = search needs
+for-range-requires : tie.Need-for-range-requires
+for-range-requires c κs = search needs
 
 for-last-requires : tie.Need-for-last-requires
 for-last-requires c κs = search needs
+
+moved-requires : tie.Need-moved-requires
+moved-requires c κs = search needs
+
+new-high-requires : tie.Need-new-high-requires
+new-high-requires c κs = search needs
+
+moved-requires-2 : tie.Need-moved-requires-2
+moved-requires-2 c κs = search needs
+
+new-low-requires : tie.Need-new-low-requires
+new-low-requires c κs = search needs
+
+moved-requires-3 : tie.Need-moved-requires-3
+moved-requires-3 c κs = search needs
+
+moved-requires-4 : tie.Need-moved-requires-4
+moved-requires-4 c κs = search needs
+
+counted-requires : tie.Need-counted-requires
+counted-requires c κs = search needs
 
 counted-requires-2 : tie.Need-counted-requires-2
 counted-requires-2 c κs = search needs
@@ -34,12 +49,17 @@ pub after-trade-spec : {M : Type 1} → statement M
 after-trade-spec =
     tie.close
     (tie.spec
-    printed-after-requires
-    high-after-requires
-    low-after-requires
-    last-after-requires
-    counted-requires
+    in-units-requires
+    prints-trade-requires
+    for-range-requires
     for-last-requires
+    moved-requires
+    new-high-requires
+    moved-requires-2
+    new-low-requires
+    moved-requires-3
+    moved-requires-4
+    counted-requires
     counted-requires-2
     counted-requires-3
     returns)
