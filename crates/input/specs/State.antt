@@ -1,5 +1,5 @@
 -- Where a program stands in its block of input. Assumes nothing.
-use Prim.Native.Nat.{ℕ, _-_, _≤_}
+use Prim.Native.Nat.{ℕ, _+_, _-_, _≤_, _<_}
 use mathlib.Core.Path.{_≡_}
 use mathlib.Core.Bool.{true, false}
 use mathlib.Core.List.{List}
@@ -7,6 +7,7 @@ use lib.Dec.{ltb}
 use lib.ListN.{length, take}
 use Rattle.rules.specs.Day.{opened}
 use Rattle.rules.specs.declared.Settings.{Settings}
+use Rattle.blocks.specs.Lines.{lineEnd}
 use Rattle.refill.specs.Block.{unused}
 use Rattle.input.specs.declared.State.{State}
 
@@ -45,3 +46,22 @@ pub record More (s : State) (block : List ℕ) (r : State) (block′ : List ℕ)
   pub settings-same : r .settings ≡ s .settings
   pub number-same : r .number ≡ s .number
   pub passing-same : r .passing ≡ s .passing
+
+-- behind the line feed at a place: the line that it ends is passed over
+unfoldable pub passedTo : State → ℕ → State
+passedTo s end = record { settings = s .settings; number = s .number; at = end + 1; have = s .have; passing = false; going = s .going }
+
+-- after all that is left was passed over
+unfoldable pub usedUp : State → State
+usedUp s = record { settings = s .settings; number = s .number; at = s .have; have = s .have; passing = s .passing; going = s .going }
+
+-- where the next line feed of what is read stands
+abbrev pub feedAt : State → List ℕ → ℕ
+feedAt s block = lineEnd (take (s .have) block) (s .at)
+
+-- a line was passed over: up to its line feed, where one is read, and no byte of the block moved; all that is left otherwise, and
+-- more was read
+pub record Passed (s : State) (block : List ℕ) (r : State) (block′ : List ℕ) : Type 0 where
+  pub ended : feedAt s block < s .have → r ≡ passedTo s (feedAt s block)
+  pub block-same : feedAt s block < s .have → block′ ≡ block
+  pub unended : s .have ≤ feedAt s block → More (usedUp s) block r block′

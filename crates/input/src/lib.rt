@@ -4,7 +4,7 @@ use rules::Settings;
 ghost use mathlib.Core.Path.{_≡_};
 ghost use Prim.Native.Nat.{_+_, _-_, _<_};
 ghost use lib.ListN.{length};
-ghost use Rattle.input.specs.State.{opening, over, goneOn, allTaken, Within, More};
+ghost use Rattle.input.specs.State.{opening, over, goneOn, allTaken, Within, More, Passed};
 
 // The settings, the number of the next line, the part of the block that is read and not yet used, whether a line longer than
 // the block is being passed over, and whether there is more to read.
@@ -80,7 +80,7 @@ pub fn read_more(s: State, block: &mut [u8]) -> State
 // Passes over a line up to its line feed, or over all that is left of the block.
 pub fn pass(s: State, block: &mut [u8]) -> State
     requires { ⌜ Within s (length (now block)) × (0 < length (now block)) ⌝ }
-    ensures { λ r. ⌜ Within r (length (now (block .exit))) ⌝ }
+    ensures { λ r. ⌜ Passed s (now (block .entry)) r (now (block .exit)) ⌝ }
 {
     let at = s.at;
     let have = s.have;

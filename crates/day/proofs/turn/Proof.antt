@@ -1,3 +1,4 @@
+use Rattle.input.proofs.Laws.{passed-within}
 use borrow.Author.Needs.{needs}
 use Rattle.day.proofs.turn.Statement.{statement}
 use Rattle.day.proofs.turn.Tie as tie
@@ -9,7 +10,7 @@ same-length : tie.Need-same-length
 same-length c = search needs
 
 returns : tie.Need-returns
-returns c = search needs
+returns c = search passed-within
 
 feed-lines-requires : tie.Need-feed-lines-requires
 feed-lines-requires c κs = search needs

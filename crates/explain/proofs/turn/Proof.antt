@@ -1,3 +1,4 @@
+use Rattle.input.proofs.Laws.{passed-within}
 use borrow.Author.Needs.{needs}
 use Rattle.explain.proofs.turn.Statement.{statement}
 use Rattle.explain.proofs.turn.Tie as tie
@@ -9,7 +10,7 @@ same-length : tie.Need-same-length
 same-length c = search needs
 
 returns : tie.Need-returns
-returns c = search needs
+returns c = search passed-within
 
 explain-block-requires : tie.Need-explain-block-requires
 explain-block-requires c κs = search needs

@@ -1,3 +1,4 @@
+use Rattle.input.proofs.Laws.{passed-within}
 use borrow.Author.Needs.{needs}
 use Rattle.factlines.proofs.turn.Statement.{statement}
 use Rattle.factlines.proofs.turn.Tie as tie
@@ -9,7 +10,7 @@ same-length : tie.Need-same-length
 same-length c = search needs
 
 returns : tie.Need-returns
-returns c = search needs
+returns c = search passed-within
 
 show-block-requires : tie.Need-show-block-requires
 show-block-requires c κs = search needs

@@ -1,4 +1,4 @@
-use Rattle.input.proofs.Laws.{had}
+use Rattle.input.proofs.Laws.{had, feed-passed, none-passed}
 use borrow.Author.Needs.{needs}
 use Rattle.input.proofs.pass.Statement.{statement}
 use Rattle.input.proofs.pass.Tie as tie
@@ -19,7 +19,7 @@ same-length : tie.Need-same-length
 same-length c = search needs
 
 returns : tie.Need-returns
-returns c = search needs
+returns c = search feed-passed
 
 read-more-requires : tie.Need-read-more-requires
 read-more-requires c κs = search needs
@@ -28,7 +28,7 @@ same-length-2 : tie.Need-same-length-2
 same-length-2 c = search needs
 
 returns-2 : tie.Need-returns-2
-returns-2 c = search needs
+returns-2 c = search none-passed
 
 pub pass-spec : {M : Type 1} → statement M
 pass-spec =
