@@ -47,6 +47,7 @@ pub record Formed (network unit v : ℕ) (f : Form) : Type 0 where
 pub record VolumeColumns (columns : List ℕ) (volume : ℕ) : Type 0 where
   pub size : length columns ≡ 31
   pub volume-is : numberIn (take 9 columns) ≡ Is volume
+  pub some : 1 ≤ volume
 
 -- the price in the 22 columns behind them, n in the first 14, and its value and whole part
 pub record PriceColumns (columns : List ℕ) (price : Price) (value whole : ℕ) : Type 0 where

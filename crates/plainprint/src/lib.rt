@@ -183,7 +183,7 @@ fn lay_marked(
 
 // From 1 to 9,999: its digits are in the line's own columns.
 fn lay_short(rest: &mut [u8], columns: &[u8], network: u64, unit: u64, v: u64) -> usize
-    requires { ⌜ (1 ≤ unit) × (1 ≤ v) × (v < 10000) × VolumeColumns (now columns) v × (12 ≤ length (now rest)) ⌝ }
+    requires { ⌜ (1 ≤ unit) × (v < 10000) × VolumeColumns (now columns) v × (12 ≤ length (now rest)) ⌝ }
     ensures { λ r. ⌜ Laid (volumeText network unit v) (now (rest .entry)) (now (rest .exit)) r ⌝ }
 {
     let f = form_of(network, unit, v);
@@ -211,9 +211,6 @@ fn lay_volume(
 {
     if !shows {
         return 0;
-    }
-    if v < 1 {
-        return volumes::write_volume(rest, network, unit, v);
     }
     if v < 10000 {
         return lay_short(rest, columns, network, unit, v);
