@@ -1,27 +1,14 @@
 -- Laws of parts of columns that are blank. Assumes nothing.
-use Prim.Native.Nat.{ℕ, zero, suc, _+_, _≤_}
+use Prim.Native.Nat.{ℕ, _+_, _≤_}
 use mathlib.Core.Path.{_≡_, refl}
-use mathlib.Core.Bool.{Bool, true}
+use mathlib.Core.Bool.{true}
 use mathlib.Core.List.{List, [], _∷_}
 use lib.ListN.{take, drop}
 use Rattle.text.specs.Pick.{pick, all}
 use Rattle.text.proofs.Texts.{and-left, and-right}
-use Rattle.text.proofs.Parts.{take-within}
+use Rattle.text.proofs.Parts.{take-within, all-take, all-drop}
 use Rattle.rules.specs.declared.Number.the-variants.{Blank}
 use Rattle.rules.specs.Columns.{isBlank, blank, justified, numeral, numberIn}
-
-module _ (p : ℕ → Bool) where
-  all-take : (k : ℕ) (s : List ℕ) → all p s ≡ true → all p (take k s) ≡ true
-  unfolding all
-  all-take zero s h = refl
-  all-take (suc k) [] h = refl
-  all-take (suc k) (c ∷ s) h = rw (and-left (p c) (all p s) h, all-take k s (and-right (p c) (all p s) h))
-
-  all-drop : (k : ℕ) (s : List ℕ) → all p s ≡ true → all p (drop k s) ≡ true
-  unfolding all
-  all-drop zero s h = h
-  all-drop (suc k) [] h = refl
-  all-drop (suc k) (c ∷ s) h = all-drop k s (and-right (p c) (all p s) h)
 
 -- a part of a blank part
 pub blank-part : (k j m : ℕ) (s : List ℕ) → j + k ≤ m → blank (take m s) ≡ true → blank (take k (drop j s)) ≡ true

@@ -4,19 +4,18 @@ use native.Mathlib.Omega.{arith}
 use mathlib.Core.Path.{_≡_, sym, ap, _∙_}
 use mathlib.Core.Bool.{Bool, true, false, _&&_, not}
 use mathlib.Core.List.{List}
-use lib.ListN.{length, getD, take, drop, length-take, length-drop}
-use lib.Seq.{drop-drop, take-all, take-take}
+use lib.ListN.{getD, take, drop}
+use lib.Seq.{drop-drop}
 use borrow.Author.Tests.{not-true, not-false}
 use Rattle.text.proofs.Texts.{and-left, and-right}
 use Rattle.text.proofs.Booleans.{and-both}
 use Rattle.rules.specs.declared.Number.the-variants.{Blank, Is}
 use Rattle.rules.specs.Columns.{isBlank, blank, numberIn}
-use Rattle.field.proofs.Texts.{all-split}
 use Rattle.aligned.specs.Columns.{stands, worthOf, formed, placed}
 use Rattle.aligned.proofs.Parts.{blank-part, blank-number}
 use Rattle.aligned.proofs.Numbers.{number-stands, stands-in, stands-on}
 use Rattle.dayside.specs.Side.{amountsStand}
-use Rattle.text.proofs.Parts.{take-within}
+use Rattle.text.proofs.Parts.{all-parts}
 
 -- the tables have the volume from column 2 on and n at column 10
 unfoldable pub tabled : List ℕ → List ℕ → Bool
@@ -53,12 +52,7 @@ given-none s b h k = sym (blank-number s (h k))
 module _ (part : List ℕ) where
   end-parts : (blank (take 16 (drop 28 part)) && blank (take 2 (drop 44 part))) ≡ blank (take 18 (drop 28 part))
   unfolding blank
-  end-parts =
-      let x : List ℕ = drop 28 part in
-      let e : take 16 (take 18 x) ≡ take 16 x = take-take 16 18 x (omega arith) in
-      let l : length (drop 16 (take 18 x)) ≤ 2 = omega (arith, length-drop 16 (take 18 x), length-take 18 x) in
-      let f : drop 16 (take 18 x) ≡ take 2 (drop 44 part) = sym (take-all 2 (drop 16 (take 18 x)) l) ∙ take-within 2 16 18 x (omega arith) ∙ ap (take 2) (drop-drop 16 28 part) in
-      rw (← e, ← f) (all-split isBlank 16 (take 18 x))
+  end-parts = all-parts isBlank 28 16 2 part
 
   pub end-marked : (r : Bool) → r ≡ blank (take 16 (drop 28 part)) → not r ≡ true → false ≡ blank (take 18 (drop 28 part))
   end-marked r e h = rw (← end-parts, ← e, not-true r h)

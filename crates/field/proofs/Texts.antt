@@ -1,18 +1,18 @@
 -- Laws of texts read from the left: what is blank, what passes a test, a field's word. Assumes nothing.
-use Prim.Native.Nat.{ℕ, zero, suc, _+_, _-_, _≤_, _<_}
+use Prim.Native.Nat.{ℕ, suc, _+_, _-_, _≤_, _<_}
 use native.Mathlib.Numerals.{add-one}
 use native.Mathlib.Omega.{arith}
 use mathlib.Core.Path.{_≡_, refl, sym, ap, _∙_}
 use mathlib.Core.Bool.{Bool, true, false, _&&_, not}
 use mathlib.Core.List.{List, [], _∷_}
-use lib.ListN.{length, getD, take, drop, length-drop, drop-of-length-le}
-use lib.Seq.{drop-cons, drop-drop, take-all}
+use lib.ListN.{length, getD, take, drop, drop-of-length-le}
+use lib.Seq.{drop-cons, take-all}
 use lib.Dec.{eqb}
 use borrow.Author.Tests.{eq-eqb, ne-eqb, not-true, not-false}
 use Rattle.text.specs.Pick.{pick, all, among}
 use Rattle.text.specs.Reading.{span, found}
 use Rattle.text.proofs.Booleans.{and-false}
-use Rattle.text.proofs.Parts.{rest-is}
+use Rattle.text.proofs.Parts.{rest-is, all-parts}
 use Rattle.rules.specs.Tape.{isLetter}
 use Rattle.rules.specs.Columns.{isBlank, blank, word, filled, isRoot}
 use Rattle.rules.proofs.Fields.{word-blank, word-byte}
@@ -70,24 +70,11 @@ module _ (s : List ℕ) (marks i : ℕ) (so : (eqb marks 0 && blank (drop i s)) 
   unfolding blank isBlank
   blank-passed h = passed isBlank s marks i so h
 
--- a text passes if its front and the rest of it do
-pub all-split : (p : ℕ → Bool) (k : ℕ) (s : List ℕ) → (all p (take k s) && all p (drop k s)) ≡ all p s
-unfolding all
-all-split p zero s = refl
-all-split p (suc k) [] = refl
-all-split p (suc k) (c ∷ s) = go (p c) (all-split p k s)
-  where
-    go : (b : Bool) → (all p (take k s) && all p (drop k s)) ≡ all p s → ((b && all p (take k s)) && all p (drop k s)) ≡ (b && all p s)
-    go true e = e
-    go false e = refl
-
 -- 48 columns in three parts
 module _ (s : List ℕ) (size : length s ≡ 48) where
   blank-parts : (blank (take 16 s) && (blank (take 16 (drop 16 s)) && blank (take 16 (drop 32 s)))) ≡ blank s
   unfolding blank
-  blank-parts =
-      rw (take-all 16 (drop 32 s) (omega (arith, length-drop 32 s, size)), ← drop-drop 16 16 s, all-split isBlank 16 (drop 16 s))
-      (all-split isBlank 16 s)
+  blank-parts = rw (all-parts isBlank 16 16 16 s) (all-parts isBlank 0 16 32 s ∙ ap (all isBlank) (take-all 48 s (omega (arith, size))))
 
   pub first-marked : (r : Bool) → r ≡ blank (take 16 s) → not r ≡ true → false ≡ blank s
   first-marked r e h = rw (← blank-parts, ← e, not-true r h)

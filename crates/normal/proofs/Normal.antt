@@ -11,6 +11,7 @@ use lib.Seq.{getD-set-same, getD-set-other}
 use borrow.Author.Tests.{eqb-true, eqb-false, not-false}
 use Rattle.text.specs.Pick.{pick, all}
 use Rattle.text.proofs.Texts.{and-left, and-right}
+use Rattle.text.proofs.Parts.{all-take, all-drop}
 use Rattle.rules.specs.Columns.{columns, column, numberIn, isNumber, valueOf, between, isRoot}
 use Rattle.rules.specs.Line.{isPrintable, isShaped, isNetwork, isUnit, isSecurityNumber, lineOf, ofKind, nameColumns, listingFormed, listingRanged, listingOf}
 use Rattle.rules.specs.Refusal.{refuse}
@@ -28,7 +29,6 @@ use Rattle.compose.specs.Printable.{Printable}
 use Rattle.compose.proofs.Below.{root-columns}
 use Rattle.compose.proofs.ByKind.{line-by, formed-by, ranged-by}
 use Rattle.normal.specs.Invariant.{Invariant}
-use Rattle.normal.proofs.Unsuffixed.{all-take, all-drop}
 use Rattle.normal.proofs.Views.{accepted-is, printable-as, day-printable}
 
 -- ---- the security that the S line enters

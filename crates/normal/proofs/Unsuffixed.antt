@@ -1,5 +1,5 @@
 -- A name whose temporary suffix is not shown prints as the name without it, which an S line can enter too. Assumes nothing.
-use Prim.Native.Nat.{ℕ, zero, suc}
+use Prim.Native.Nat.{ℕ}
 use native.Mathlib.Omega.{arith}
 use mathlib.Core.Path.{_≡_, refl, ap, _∙_}
 use mathlib.Core.Bool.{Bool, true, false, _&&_, not}
@@ -7,8 +7,7 @@ use mathlib.Core.List.{List, [], _∷_, _++_}
 use lib.ListN.{length, take, drop}
 use Rattle.text.specs.Pick.{pick, opt, all, same}
 use Rattle.text.specs.Reading.{span}
-use Rattle.text.proofs.Texts.{and-left, and-right}
-use Rattle.text.proofs.Parts.{all-append}
+use Rattle.text.proofs.Parts.{all-append, all-take, all-drop}
 use Rattle.rules.specs.Columns.{between, word, blank, isBlank, filled, leftJustified, isRoot}
 use Rattle.rules.specs.Line.{isPrintable}
 use Rattle.rules.specs.Names.{rootField, suffixField, temporaryField, appendageField, partText, nameText, lawfulField, lawfulName, isReserved, isSuffix, isTemporary, isAppendage}
@@ -89,18 +88,6 @@ lawful-of network name y z =
 sized-of : (name : List ℕ) → Nineteen name → length (unsuffixed name) ≡ 19
 unfolding unsuffixed
 sized-of _ (nineteen a b c d e f g h i j k l m n o p q r s) = refl
-
-pub all-take : (p : ℕ → Bool) (k : ℕ) (s : List ℕ) → all p s ≡ true → all p (take k s) ≡ true
-unfolding all
-all-take p zero s h = refl
-all-take p (suc k) [] h = refl
-all-take p (suc k) (c ∷ s) h = rw (and-left (p c) (all p s) h) (all-take p k s (and-right (p c) (all p s) h))
-
-pub all-drop : (p : ℕ → Bool) (k : ℕ) (s : List ℕ) → all p s ≡ true → all p (drop k s) ≡ true
-unfolding all
-all-drop p zero s h = h
-all-drop p (suc k) [] h = refl
-all-drop p (suc k) (c ∷ s) h = all-drop p k s (and-right (p c) (all p s) h)
 
 printable-of : (name : List ℕ) → all isPrintable name ≡ true → all isPrintable (unsuffixed name) ≡ true
 unfolding unsuffixed

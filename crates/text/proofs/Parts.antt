@@ -2,11 +2,11 @@
 use Prim.Native.Nat.{ℕ, zero, suc, _+_, _-_, _≤_}
 use native.Mathlib.Omega.{arith}
 use mathlib.Core.Path.{_≡_, refl, sym, ap, _∙_}
-use mathlib.Core.Bool.{Bool, true, false}
+use mathlib.Core.Bool.{Bool, true, false, _&&_}
 use mathlib.Core.List.{List, [], _∷_, _++_}
 use lib.Dec.{eqb}
-use lib.ListN.{length, take, drop, length-drop}
-use lib.Seq.{length-take-le, take-take, take-all, take-at}
+use lib.ListN.{length, take, drop, length-drop, take-append-drop}
+use lib.Seq.{length-take-le, take-take, take-add, take-all, take-at, drop-drop}
 use borrow.Author.Tests.{eqb-true}
 use Rattle.text.specs.Pick.{pick, opt, all}
 use Rattle.text.specs.Put.{put, Written}
@@ -59,10 +59,31 @@ module _ (p : ℕ → Bool) where
   heads-append [] u h = cc
   heads-append (c ∷ t) u h = h
 
-  pub all-append : (s t : List ℕ) → all p s ≡ true → all p t ≡ true → all p (s ++ t) ≡ true
+  -- all pass if all of both parts do
+  all-both : (s t : List ℕ) → all p (s ++ t) ≡ (all p s && all p t)
   unfolding all
-  all-append [] t h k = k
-  all-append (c ∷ s) t h k = and-both (and-left (p c) (all p s) h) (all-append s t (and-right (p c) (all p s) h) k)
+  all-both [] t = refl
+  all-both (c ∷ s) t = go (p c) (all-both s t)
+    where
+      go : (b : Bool) → all p (s ++ t) ≡ (all p s && all p t) → (b && all p (s ++ t)) ≡ ((b && all p s) && all p t)
+      go true e = e
+      go false e = refl
+
+  pub all-append : (s t : List ℕ) → all p s ≡ true → all p t ≡ true → all p (s ++ t) ≡ true
+  all-append s t h k = all-both s t ∙ and-both h k
+
+  all-split : (k : ℕ) (s : List ℕ) → (all p (take k s) && all p (drop k s)) ≡ all p s
+  all-split k s = sym (all-both (take k s) (drop k s)) ∙ ap (all p) (take-append-drop k s)
+
+  pub all-take : (k : ℕ) (s : List ℕ) → all p s ≡ true → all p (take k s) ≡ true
+  all-take k s h = and-left (all p (take k s)) (all p (drop k s)) (all-split k s ∙ h)
+
+  pub all-drop : (k : ℕ) (s : List ℕ) → all p s ≡ true → all p (drop k s) ≡ true
+  all-drop k s h = and-right (all p (take k s)) (all p (drop k s)) (all-split k s ∙ h)
+
+  -- k + m bytes from a place on
+  pub all-parts : (j k m : ℕ) (s : List ℕ) → (all p (take k (drop j s)) && all p (take m (drop (j + k) s))) ≡ all p (take (k + m) (drop j s))
+  all-parts j k m s = rw (take-add k m (drop j s), drop-drop k j s) (sym (all-both (take k (drop j s)) (take m (drop (j + k) s))))
 
   pub all-opt : (b : Bool) (t : List ℕ) → all p t ≡ true → all p (opt b t) ≡ true
   unfolding opt all
