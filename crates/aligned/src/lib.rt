@@ -8,7 +8,7 @@ ghost use Rattle.aligned.specs.Columns.{fits, formed, worthOf};
 
 // 1 where column c does not go on a number. `front` is a blank at a number's first column, `most` the highest byte allowed,
 // `left` the column before. Single tests that set a value, so that many columns are compared at once.
-fn strange(front: u8, most: u8, left: u8, c: u8) -> u8
+fn unfit(front: u8, most: u8, left: u8, c: u8) -> u8
     ensures { λ r. ⌜ r ≡ pick (fits front most left c) 0 1 ⌝ }
 {
     let mut behind = left;
@@ -44,7 +44,7 @@ pub fn is_formed(front: &[u8], most: &[u8], columns: &[u8]) -> bool
     let mut bad: u8 = 0;
     let mut i: usize = 0;
     while i < front.len() {
-        bad = bad + strange(front[i], most[i], columns[i], columns[i + 1]);
+        bad = bad + unfit(front[i], most[i], columns[i], columns[i + 1]);
         i += 1;
     }
     bad == 0

@@ -20,26 +20,26 @@ abbrev μ-loop : tie.MeasureT-loop
 loop-holds : tie.Need-loop-holds Inv-loop μ-loop
 loop-holds c = (search needs, search needs, refl)
 
-shared-slice-read-strange : tie.Need-shared-slice-read-strange Inv-loop μ-loop
-shared-slice-read-strange c = search needs
+shared-slice-read-unfit : tie.Need-shared-slice-read-unfit Inv-loop μ-loop
+shared-slice-read-unfit c = search needs
 
-shared-slice-read-strange-2 : tie.Need-shared-slice-read-strange-2 Inv-loop μ-loop
-shared-slice-read-strange-2 c = search needs
+shared-slice-read-unfit-2 : tie.Need-shared-slice-read-unfit-2 Inv-loop μ-loop
+shared-slice-read-unfit-2 c = search needs
 
-shared-slice-read-strange-3 : tie.Need-shared-slice-read-strange-3 Inv-loop μ-loop
-shared-slice-read-strange-3 c = search needs
+shared-slice-read-unfit-3 : tie.Need-shared-slice-read-unfit-3 Inv-loop μ-loop
+shared-slice-read-unfit-3 c = search needs
 
-add-strange : tie.Need-add-strange Inv-loop μ-loop
-add-strange c = search needs
+add-unfit : tie.Need-add-unfit Inv-loop μ-loop
+add-unfit c = search needs
 
-shared-slice-read-strange-4 : tie.Need-shared-slice-read-strange-4 Inv-loop μ-loop
-shared-slice-read-strange-4 c = search needs
+shared-slice-read-unfit-4 : tie.Need-shared-slice-read-unfit-4 Inv-loop μ-loop
+shared-slice-read-unfit-4 c = search needs
 
-strange-requires : tie.Need-strange-requires Inv-loop μ-loop
-strange-requires c κs = search needs
+unfit-requires : tie.Need-unfit-requires Inv-loop μ-loop
+unfit-requires c κs = search needs
 
 add-bad : tie.Need-add-bad Inv-loop μ-loop
-add-bad c = omega (arith, at-most-one _ _ (c .strange .ensures))
+add-bad c = omega (arith, at-most-one _ _ (c .unfit .ensures))
 
 add-i : tie.Need-add-i Inv-loop μ-loop
 add-i c = search needs
@@ -48,7 +48,7 @@ loop-less : tie.Need-loop-less Inv-loop μ-loop
 loop-less c = search needs
 
 loop-again : tie.Need-loop-again Inv-loop μ-loop
-loop-again c = (search needs, omega (arith, at-most-one _ _ (c .strange .ensures)), search one-more)
+loop-again c = (search needs, omega (arith, at-most-one _ _ (c .unfit .ensures)), search one-more)
 
 returns : tie.Need-returns Inv-loop μ-loop
 returns c = search all-formed
@@ -60,12 +60,12 @@ is-formed-spec =
     Inv-loop
     μ-loop
     loop-holds
-    shared-slice-read-strange
-    shared-slice-read-strange-2
-    shared-slice-read-strange-3
-    add-strange
-    shared-slice-read-strange-4
-    strange-requires
+    shared-slice-read-unfit
+    shared-slice-read-unfit-2
+    shared-slice-read-unfit-3
+    add-unfit
+    shared-slice-read-unfit-4
+    unfit-requires
     add-bad
     add-i
     loop-less

@@ -7,10 +7,10 @@ use Rattle.text.specs.Pick.{pick}
 use Rattle.text.proofs.Tests.{picks}
 use Rattle.aligned.specs.Columns.{fits}
 use Rattle.aligned.proofs.Numbers.{column-is}
-use Rattle.aligned.proofs.strange.Statement.{statement}
-use Rattle.aligned.proofs.strange.Tie as tie
-use Rattle.aligned.proofs.strange.Reads as reads
-use Rattle.aligned.proofs.strange.Lts as lts
+use Rattle.aligned.proofs.unfit.Statement.{statement}
+use Rattle.aligned.proofs.unfit.Tie as tie
+use Rattle.aligned.proofs.unfit.Reads as reads
+use Rattle.aligned.proofs.unfit.Lts as lts
 
 -- before the last test
 known : (c : lts.Joined5 reads.Pre reads.Post) (r : ℕ)
@@ -33,5 +33,5 @@ returns c = known (c .before) 0 (search picks)
 returns-2 : tie.Need-returns-2
 returns-2 c = known (c .before) (c .before .if5 .wrong) (search picks)
 
-pub strange-spec : {M : Type 1} → statement M
-strange-spec = tie.close (tie.spec returns returns-2)
+pub unfit-spec : {M : Type 1} → statement M
+unfit-spec = tie.close (tie.spec returns returns-2)
