@@ -103,7 +103,7 @@ plain-ready st table line p h =
 
 pub plain-read : (st : Settings) (table line : List ℕ) (p : Plain) → PlainCall st table line p → ReadFrom line p
 unfolding isShaped
-plain-read st table line p h = record { size = eqb-true (length line) 100 (and-left (eqb (length line) 100) _ (h .line-is .shaped)); volume-is = h .line-is .volume-is; n-is = h .line-is .n-is }
+plain-read st table line p h = record { size = eqb-true (length line) 100 (and-left (eqb (length line) 100) _ (h .line-is .shaped)); volume-is = h .line-is .volume-is; some = h .line-is .some; n-is = h .line-is .n-is }
 
 -- ---- the call
 

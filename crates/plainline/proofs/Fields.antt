@@ -237,7 +237,8 @@ plain-line line p l t h = record {
   formed = rw (h .security-is, h .market-is, h .market, side-formed (firstSide line) p (h .side), h .rest);
   ranged = rw (h .security-is, h .place, side-ranged (firstSide line) p (h .side));
   trade = rw (h .security-is, h .market-is, side-is (firstSide line) p (h .side), side-lawful (firstSide line) p (h .side), side-matched (firstSide line) p (h .side));
-  volume-is = (ap numberIn (sym (side-columns 0 9 line (omega arith))) ∙ h .side .volume-is, h .side .some);
+  volume-is = ap numberIn (sym (side-columns 0 9 line (omega arith))) ∙ h .side .volume-is;
+  some = h .side .some;
   n-is = ap numberIn (sym (side-columns 9 14 line (omega arith))) ∙ h .side .n-is;
 }
 

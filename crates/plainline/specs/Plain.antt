@@ -59,5 +59,6 @@ pub record PlainLine (line : List ℕ) (p : Plain) : Type 0 where
   pub formed : tradeFormed line ≡ true
   pub ranged : tradeRanged line ≡ true
   pub trade : tradeOf line ≡ plainTrade p
-  pub volume-is : (numberIn (columns 7 15 line) ≡ Is (p .volume)) × (1 ≤ p .volume)
+  pub volume-is : numberIn (columns 7 15 line) ≡ Is (p .volume)
+  pub some : 1 ≤ p .volume
   pub n-is : numberIn (columns 16 29 line) ≡ Is (p .n)

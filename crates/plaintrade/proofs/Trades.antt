@@ -153,7 +153,7 @@ price-columned line s p value r h e = record {
 -- those that begin with the volume's
 pub columned : (line : List ℕ) (s : Security) (p : Plain) (value : ℕ) → ReadFrom line p → Ready s p → value ≡ units (priceOf p) → Columned (take 31 (drop 6 line)) (p .volume) (priceOf p) value (value / 100000000)
 columned line s p value r h e = record {
-  volume-columns = record { size = rw (length-take, length-drop) (omega (arith, r .size)); volume-is = rw (take-take 9 31 (drop 6 line) (omega arith)) (r .volume-is .0); some = r .volume-is .1 };
+  volume-columns = record { size = rw (length-take, length-drop) (omega (arith, r .size)); volume-is = rw (take-take 9 31 (drop 6 line) (omega arith)) (r .volume-is); some = r .some };
   price-columns = rw (take-within 22 9 31 (drop 6 line) (omega arith), drop-drop 9 6 line) (price-columned line s p value r h e);
 }
 

@@ -83,5 +83,6 @@ pub record Ready (s : Security) (p : Plain) : Type 0 where
 -- ---- the line that a trade was read from: volume and n stand in its columns
 pub record ReadFrom (line : List ℕ) (p : Plain) : Type 0 where
   pub size : length line ≡ 100
-  pub volume-is : (numberIn (columns 7 15 line) ≡ Is (p .volume)) × (1 ≤ p .volume)
+  pub volume-is : numberIn (columns 7 15 line) ≡ Is (p .volume)
+  pub some : 1 ≤ p .volume
   pub n-is : numberIn (columns 16 29 line) ≡ Is (p .n)
