@@ -1,3 +1,4 @@
 pub mod Fates
 pub mod Agree
 pub mod Exactly
+pub mod Prints
