@@ -1,9 +1,9 @@
 -- Whatever one line can show is a normal print: its S line and its own line are accepted and print it. Assumes nothing.
-use Prim.Native.Nat.{ℕ, _+_, _-_, _^_, _≤_, _<_}
+use Prim.Native.Nat.{ℕ, _-_, _^_, _≤_, _<_}
 use native.Mathlib.Omega.{arith}
 use mathlib.Core.Path.{_≡_, refl, sym, ap, _∙_}
 use mathlib.Core.Bool.{Bool, true, false, _&&_, not}
-use mathlib.Core.List.{List, [], _∷_, _++_}
+use mathlib.Core.List.{List, [], _∷_}
 use mathlib.Core.Option.{Option, none, some}
 use lib.Dec.{leb, ltb, eqb}
 use lib.ListN.{length, set}
@@ -14,17 +14,15 @@ use Rattle.text.proofs.Tests.{is-nlt}
 use Rattle.rules.specs.Columns.{column, columns, between, isRoot, filled, blank, isBlank, leftJustified, word, numberIn, isNumber, valueOf}
 use Rattle.rules.specs.Tape.{isLetter}
 use Rattle.text.specs.Reading.{span}
-use Rattle.rules.specs.Announcement.{modeText, minimumText, minimumDollars, levelText}
+use Rattle.rules.specs.Announcement.{modeText, levelText}
 use Rattle.rules.specs.declared.Number.the-variants.{Is}
 use Rattle.rules.specs.Names.{nameText, hasTemporary, lawfulName, lawfulField, isReserved, isSuffix, isTemporary, isAppendage}
-use Rattle.rules.specs.Price.{units, priceText}
-use Rattle.rules.specs.Conditions.{afterName}
-use Rattle.rules.specs.Side.{headText, tailText, sideText}
-use Rattle.rules.specs.Volume.{volumeText, fullVolume}
+use Rattle.rules.specs.Price.{units}
+use Rattle.rules.specs.Side.{sideText}
 use Rattle.text.specs.Bytes.{bytes}
 use Rattle.text.proofs.Parts.{all-append}
 use Rattle.rules.specs.Trade.{printsTrade, tradeFull, tradeShows, isNormal}
-use Rattle.rules.specs.Correction.{repeatsName, endPair, cancelText, correctionText, cancelOpening, errorOpening, cancelFull, cancelShows, printsCorrection, correctionFull, correctionShows}
+use Rattle.rules.specs.Correction.{cancelText, correctionText, cancelOpening, errorOpening, cancelFull, cancelShows, printsCorrection, correctionFull, correctionShows}
 use Rattle.rules.specs.Line.{isPrintable, isShaped, isKind, isFormed, isRanged, lineOf, ofKind, nameColumns, isUnit, isNetwork, isMode, modeOf, modeFormed, levelFormed, levelRanged}
 use Rattle.rules.specs.Refusal.{refuse}
 use Rattle.rules.specs.Day.{Day, cleared, isEntered, securityAt, tradeRefusal, correctionRefusal, stateRefusal, undated, refusalOf, printOf, tradePrint, cancelPrint, correctionPrint, showsTemporary, entered, afterLine}
@@ -37,6 +35,7 @@ use Rattle.rules.specs.declared.Line.{Line}
 use Rattle.rules.specs.declared.Line.the-variants.{Listed, Moded, Leveled, Traded, Cancelled, Erred, Corrected}
 use Rattle.rules.specs.declared.Refusal.{Refusal}
 use Rattle.rules.specs.declared.Refusal.the-variants.{NoDate}
+use Rattle.rules.proofs.Some.{some-named, some-cancel, some-correction, some-mode, some-level}
 use Rattle.named.proofs.Back.{name-some}
 use Rattle.named.specs.Plain.{NamePlain}
 use Rattle.compose.specs.Columns.{digitsBefore, numberField, firstOr, later, textField, blanks}
@@ -72,34 +71,6 @@ x-printable = refl
 e-printable : all isPrintable (69 ∷ []) ≡ true
 unfolding all isPrintable between
 e-printable = refl
-
-longer : (s t : List ℕ) → 1 ≤ length s → 1 ≤ length (s ++ t)
-longer [] t h = absurd (omega (h, arith))
-longer (c ∷ s) t h = omega arith
-
-some-side : (name : List ℕ) → 1 ≤ length name → (network unit : ℕ) (x : Side) → 1 ≤ length (sideText name network unit true true x)
-unfolding sideText headText opt
-some-side name h network unit x =
-    let v = volumeText network unit (x .volume) in
-    let p = priceText true (x .price) in
-    longer (((name ++ afterName (x .letters)) ++ v) ++ p) (tailText x)
-    (longer ((name ++ afterName (x .letters)) ++ v) p
-    (longer (name ++ afterName (x .letters)) v
-    (longer name (afterName (x .letters)) h)))
-
-some-cancel : (opening name : List ℕ) (network unit : ℕ) (x : Side) → 1 ≤ length opening → 1 ≤ length (cancelText opening name network unit true true x)
-unfolding cancelText
-some-cancel opening name network unit x h = longer (opening ++ sideText name network unit true true x) (endPair x) (longer opening (sideText name network unit true true x) h)
-
-some-correction : (name : List ℕ) (network unit : ℕ) (x y : Side) → 1 ≤ length (correctionText name network unit true true x y)
-unfolding correctionText
-some-correction name network unit x y =
-    let a = sideText name network unit true true x in
-    let b = sideText (opt (repeatsName (y .letters)) name) network unit true true y in
-    longer (((bytes "<<CORR." ++ a) ++ bytes "WAS.") ++ b) (endPair y)
-    (longer ((bytes "<<CORR." ++ a) ++ bytes "WAS.") b
-    (longer (bytes "<<CORR." ++ a) (bytes "WAS.")
-    (longer (bytes "<<CORR.") a (omega arith))))
 
 -- a line that nothing stops, with the room that its print takes
 accepted-line : (day : Day) (line : List ℕ) (kind : ℕ) (l : Line)
@@ -195,7 +166,7 @@ module _ (network unit : ℕ) (name : List ℕ) (h : Enterable network unit name
     -- a trade
     pub trade-normal : NormalPrint (sideText (nameText true name) network unit true true x) (nameText true name) (readTrade (units (x .price)) (conditionsOf x) (some (x .volume)))
     unfolding readFact
-    trade-normal = normal 5000 1 network unit name h opening-level opening-minimum (tradeLine 84 x) _ _ (Traded (tradeAs x)) _ _ traded-accepted traded-line traded-print (some-side (nameText true name) (name-some network name (h .plain) true) network unit x) traded-name traded-fact refl
+    trade-normal = normal 5000 1 network unit name h opening-level opening-minimum (tradeLine 84 x) _ _ (Traded (tradeAs x)) _ _ traded-accepted traded-line traded-print (some-named (nameText true name) (name-some network name (h .plain) true) network unit true true x) traded-name traded-fact refl
 
     cancelled-line : lineOf (tradeLine 88 x) ≡ Cancelled (tradeAs x)
     unfolding ofKind pick
@@ -225,7 +196,7 @@ module _ (network unit : ℕ) (name : List ℕ) (h : Enterable network unit name
     -- a cancel
     pub cancel-normal : NormalPrint (cancelText cancelOpening (nameText false name) network unit true true x) (nameText false name) (readCancel (inFull (units (x .price)) (conditionsOf x) (x .volume)))
     unfolding readFact
-    cancel-normal = normal 5000 1 network unit name h opening-level opening-minimum (tradeLine 88 x) _ _ (Cancelled (tradeAs x)) _ _ cancelled-accepted cancelled-line cancelled-print (some-cancel cancelOpening (nameText false name) network unit x (omega arith)) cancelled-name cancelled-fact refl
+    cancel-normal = normal 5000 1 network unit name h opening-level opening-minimum (tradeLine 88 x) _ _ (Cancelled (tradeAs x)) _ _ cancelled-accepted cancelled-line cancelled-print (some-cancel cancelOpening (nameText false name) network unit true true x (omega arith)) cancelled-name cancelled-fact refl
 
     erred-line : lineOf (tradeLine 69 x) ≡ Erred (tradeAs x)
     unfolding ofKind pick
@@ -255,7 +226,7 @@ module _ (network unit : ℕ) (name : List ℕ) (h : Enterable network unit name
     -- an error
     pub error-normal : NormalPrint (cancelText errorOpening (nameText false name) network unit true true x) (nameText false name) (readError (inFull (units (x .price)) (conditionsOf x) (x .volume)))
     unfolding readFact
-    error-normal = normal 5000 1 network unit name h opening-level opening-minimum (tradeLine 69 x) _ _ (Erred (tradeAs x)) _ _ erred-accepted erred-line erred-print (some-cancel errorOpening (nameText false name) network unit x (omega arith)) erred-name erred-fact refl
+    error-normal = normal 5000 1 network unit name h opening-level opening-minimum (tradeLine 69 x) _ _ (Erred (tradeAs x)) _ _ erred-accepted erred-line erred-print (some-cancel errorOpening (nameText false name) network unit true true x (omega arith)) erred-name erred-fact refl
 
   -- ---- C
 
@@ -292,7 +263,7 @@ module _ (network unit : ℕ) (name : List ℕ) (h : Enterable network unit name
     -- a correction
     pub correction-normal : NormalPrint (correctionText (nameText false name) network unit true true x y) (nameText false name) (readCorrection (inFull (units (x .price)) (conditionsOf x) (x .volume)) (inFull (units (y .price)) (conditionsOf y) (y .volume)))
     unfolding readFact
-    correction-normal = normal 5000 1 network unit name h opening-level opening-minimum (correctionLine x y) _ _ (Corrected (correctionAs x y)) _ _ corrected-accepted corrected-line corrected-print (some-correction (nameText false name) network unit x y) corrected-name corrected-fact refl
+    correction-normal = normal 5000 1 network unit name h opening-level opening-minimum (correctionLine x y) _ _ (Corrected (correctionAs x y)) _ _ corrected-accepted corrected-line corrected-print (some-correction (nameText false name) network unit true true x y) corrected-name corrected-fact refl
 
 -- ---- announcements, with any security entered
 
@@ -345,13 +316,6 @@ unfolding announcedIf
 announced-text [] h = absurd (omega (h, arith))
 announced-text (c ∷ s) h = refl
 
-some-mode : (m : Mode) (n : ℕ) → 1 ≤ length (modeText m n)
-unfolding modeText minimumText
-some-mode Normal n = omega arith
-some-mode Dvd n = omega arith
-some-mode Rpo n = omega arith
-some-mode Mpv n = longer (bytes "<<<MIN.PRICE.CHGS.OMITTED.NOW" ++ minimumDollars n) (bytes ">>") (longer (bytes "<<<MIN.PRICE.CHGS.OMITTED.NOW") (minimumDollars n) (omega arith))
-
 -- the mode entered, with the MPV level set before it
 pub mode-normal : (m : Mode) (n : ℕ) → between 1 100 n ≡ true → NormalPrint (modeText m n) [] (readAnnouncement (modeText m n))
 unfolding ofKind pick stateRefusal isKind among printOf nameOf factOf readFact dayWith afterLine levelDay
@@ -384,10 +348,6 @@ v-printable = refl
 level-shaped : (n : ℕ) → isShaped (levelLine n) ≡ true
 unfolding isShaped levelLine
 level-shaped n = shape (levelLine n) (level-long n) (all-append isPrintable _ (blanks 93) (all-append isPrintable (86 ∷ []) (numberField 6 n) v-printable (printable-number 6 n)) (blanks-printable 93))
-
-some-level : (n : ℕ) → 1 ≤ length (levelText n)
-unfolding levelText
-some-level n = longer (bytes "<<<VOLUME.DELETE.LEVEL.IS.NOW" ++ fullVolume n) (bytes "SHRS>>") (longer (bytes "<<<VOLUME.DELETE.LEVEL.IS.NOW") (fullVolume n) (omega arith))
 
 module _ (n : ℕ) (h : between 5000 100000 n ≡ true) where
   level-small : n < 10 ^ 6

@@ -1,68 +1,35 @@
 -- What is explained as announced or printed puts at least one byte on the tape; with `silent`, exactly that puts any. Assumes nothing.
-use Prim.Native.Nat.{ℕ, _+_, _*_, _/_, _%_, _^_, _≤_}
-use native.Mathlib.Nat.{div-add-mod', zero-mul}
+use Prim.Native.Nat.{ℕ, _≤_}
 use native.Mathlib.Omega.{arith}
 use mathlib.Core.Path.{_≡_, refl, sym}
 use mathlib.Core.Bool.{Bool, true, false, false≢true}
-use mathlib.Core.List.{List, [], _∷_, _++_}
+use mathlib.Core.List.{List, []}
 use mathlib.Core.Option.{Option, none, some}
-use lib.Dec.{leb, eqb}
+use lib.Dec.{leb}
 use lib.ListN.{length}
-use borrow.Author.Tests.{leb-true, le-leb, eqb-true, eqb-false, ne-eqb, not-false}
-use Rattle.text.specs.Bytes.{bytes}
+use borrow.Author.Tests.{leb-true, le-leb, not-false}
 use Rattle.text.specs.Pick.{pick, opt}
-use Rattle.text.specs.Decimal.{places}
-use Rattle.text.proofs.Decimal.{some-digits}
 use Rattle.text.proofs.Texts.{and-left, and-right}
 use Rattle.rules.specs.Columns.{column, valueOf}
-use Rattle.rules.specs.Volume.{volumeText, fullVolume}
-use Rattle.rules.specs.Price.{wholePart, fraction, wholeText, fractionText, shortWhole, priceText}
-use Rattle.rules.specs.Side.{headText, tailText, sideText}
 use Rattle.rules.specs.Trade.{printsTrade}
-use Rattle.rules.specs.Correction.{repeatsName, endPair, cancelText, correctionText, cancelOpening, errorOpening, printsCorrection, isMpv}
-use Rattle.rules.specs.Announcement.{minimumDollars, minimumText, modeText, levelText, stepText}
+use Rattle.rules.specs.Correction.{cancelOpening, errorOpening, printsCorrection, isMpv}
+use Rattle.rules.specs.Announcement.{stepText}
 use Rattle.rules.specs.Line.{isPrice, rangedBy, sideRanged, sideBy, sideOf, volumeIn, priceIn, decimalsIn, isSecurityNumber, tradeRanged, tradeOf, firstSide, ofKind, isRanged, lineOf}
 use Rattle.rules.specs.Day.{Day, Call, securityAt, tradePrint, cancelPrint, correctionPrint, printOf, refusalOf, tapeOf}
 use Rattle.rules.specs.declared.Mode.{Mode}
 use Rattle.rules.specs.declared.Mode.the-variants.{Normal, Dvd, Rpo, Mpv}
-use Rattle.rules.specs.declared.Price.{Price}
-use Rattle.rules.specs.declared.Side.{Side}
 use Rattle.rules.specs.declared.Parsed.{Parsed}
 use Rattle.rules.specs.declared.Line.{Line}
 use Rattle.rules.specs.declared.Line.the-variants.{Dated, Listed, Moded, Leveled, Stepped, Traded, Cancelled, Erred, Corrected}
 use Rattle.rules.specs.declared.Refusal.{Refusal}
 use Rattle.rules.proofs.Days.{passed}
+use Rattle.rules.proofs.Some.{some-minimum, some-mode, some-level, some-side, some-cancel, some-correction}
 use Rattle.explained.specs.Explained.{securityOf, tradeFate, cancelFate, correctionFate, stepFate, fateAt, fateOf, fateBy, isOnTape}
 use Rattle.explained.specs.declared.Reasons.{Reasons}
 use Rattle.explained.specs.declared.Fate.the-variants.{Refused, LeftOff, Printed}
 use Rattle.explained.proofs.Exactly.{silent}
 
--- ---- texts of at least one byte
-
-some-first : (s t : List ℕ) → 1 ≤ length s → 1 ≤ length (s ++ t)
-some-first [] t h = absurd (omega (h, arith))
-some-first (c ∷ s) t h = omega arith
-
-some-then : (s t : List ℕ) → 1 ≤ length t → 1 ≤ length (s ++ t)
-some-then [] t h = h
-some-then (c ∷ s) t h = omega arith
-
--- announcements
-
-some-minimum : (n : ℕ) → 1 ≤ length (minimumText n)
-unfolding minimumText
-some-minimum n = some-first (bytes "<<<MIN.PRICE.CHGS.OMITTED.NOW" ++ minimumDollars n) (bytes ">>") (some-first (bytes "<<<MIN.PRICE.CHGS.OMITTED.NOW") (minimumDollars n) (omega arith))
-
-some-mode : (m : Mode) (n : ℕ) → 1 ≤ length (modeText m n)
-unfolding modeText
-some-mode Normal n = omega arith
-some-mode Dvd n = omega arith
-some-mode Rpo n = omega arith
-some-mode Mpv n = some-minimum n
-
-some-level : (n : ℕ) → 1 ≤ length (levelText n)
-unfolding levelText
-some-level n = some-first (bytes "<<<VOLUME.DELETE.LEVEL.IS.NOW" ++ fullVolume n) (bytes "SHRS>>") (some-first (bytes "<<<VOLUME.DELETE.LEVEL.IS.NOW") (fullVolume n) (omega arith))
+-- ---- a step that is announced
 
 some-step : (m : Mode) (n : ℕ) → isOnTape (stepFate m) ≡ true → 1 ≤ length (stepText m n)
 unfolding stepFate isMpv pick isOnTape stepText
@@ -70,57 +37,6 @@ some-step Normal n h = absurd (false≢true h)
 some-step Dvd n h = absurd (false≢true h)
 some-step Rpo n h = absurd (false≢true h)
 some-step Mpv n h = some-minimum n
-
--- a price of at least 1: its whole part or its fraction is not 0
-
-some-part : (p : Price) → 1 ≤ p .n → wholePart p ≡ 0 → fraction p ≡ 0 → ⊥
-unfolding wholePart fraction
-some-part p h w f =
-    let e : p .n / 10 ^ p .d * 10 ^ p .d + p .n % 10 ^ p .d ≡ p .n = div-add-mod' (p .n) (10 ^ p .d) in
-    let z : 0 + 0 ≡ p .n = rw (w, f, zero-mul) at e in
-    omega (arith, z, h)
-
-some-whole : (w : ℕ) → (w ≡ 0 → ⊥) → 1 ≤ length (wholeText w)
-unfolding wholeText pick
-some-whole w h = rw (ne-eqb w 0 h) (some-digits w)
-
-some-fraction : (d f : ℕ) → (f ≡ 0 → ⊥) → 1 ≤ length (fractionText d f)
-unfolding fractionText pick
-some-fraction d f h = rw (ne-eqb f 0 h) (some-first (bytes ",") (places d f) (omega arith))
-
-some-price : (full : Bool) (p : Price) → 1 ≤ p .n → 1 ≤ length (priceText full p)
-unfolding priceText shortWhole pick
-some-price false p h = some-first ((48 + wholePart p % 10) ∷ []) (fractionText (p .d) (fraction p)) (omega arith)
-some-price true p h = go (eqb (wholePart p) 0) refl
-  where
-    go : (b : Bool) → eqb (wholePart p) 0 ≡ b → 1 ≤ length (wholeText (wholePart p) ++ fractionText (p .d) (fraction p))
-    go true e = some-then (wholeText (wholePart p)) _ (some-fraction (p .d) (fraction p) (some-part p h (eqb-true (wholePart p) 0 e)))
-    go false e = some-first (wholeText (wholePart p)) _ (some-whole (wholePart p) (eqb-false (wholePart p) 0 e))
-
--- trades, cancels, corrections
-
-some-side : (name : List ℕ) (network unit : ℕ) (full shows : Bool) (x : Side) → 1 ≤ x .price .n → 1 ≤ length (sideText name network unit full shows x)
-unfolding sideText
-some-side name network unit full shows x h =
-    let front = headText name (x .letters) ++ opt shows (volumeText network unit (x .volume)) in
-    let p = priceText full (x .price) in
-    some-first (front ++ p) (tailText x) (some-then front p (some-price full (x .price) h))
-
-some-cancel : (opening name : List ℕ) (network unit : ℕ) (full shows : Bool) (x : Side) → 1 ≤ length opening → 1 ≤ length (cancelText opening name network unit full shows x)
-unfolding cancelText
-some-cancel opening name network unit full shows x h =
-    let s = sideText name network unit full shows x in
-    some-first (opening ++ s) (endPair x) (some-first opening s h)
-
-some-correction : (name : List ℕ) (network unit : ℕ) (full shows : Bool) (x y : Side) → 1 ≤ length (correctionText name network unit full shows x y)
-unfolding correctionText
-some-correction name network unit full shows x y =
-    let a = sideText name network unit full shows x in
-    let b = sideText (opt (repeatsName (y .letters)) name) network unit full shows y in
-    some-first (((bytes "<<CORR." ++ a) ++ bytes "WAS.") ++ b) (endPair y)
-    (some-first ((bytes "<<CORR." ++ a) ++ bytes "WAS.") b
-    (some-first (bytes "<<CORR." ++ a) (bytes "WAS.")
-    (some-first (bytes "<<CORR.") a (omega arith))))
 
 -- ---- a trade within its values has a price of at least 1
 

@@ -1,3 +1,4 @@
 pub mod Marked
 pub mod Fields
 pub mod Days
+pub mod Some
