@@ -17,6 +17,21 @@ const LAST_LINE: u64 = 9_999_999_999;
 /// The reader's program ends above this place.
 const LAST_PLACE: u64 = 9_999_999_999;
 
+/// What comes next of a day file.
+enum Next<'a> {
+    Line(Line<'a>),
+    /// A line that is refused 1.
+    Refused,
+    End,
+}
+
+impl<'a> Next<'a> {
+    #[inline(always)]
+    fn new(line: &'a [u8]) -> Self {
+        Line::new(line).map_or(Next::Refused, Next::Line)
+    }
+}
+
 /// Cuts a stream at line feeds. A line over 100 bytes may come shortened, still over 100.
 struct Lines<R> {
     input: R,
@@ -31,22 +46,21 @@ impl<R: Read> Lines<R> {
         Lines { input, block: vec![0; BLOCK], from: 0, to: 0, ended: false }
     }
 
-    /// The next line: None at the end of the input, Some(None) if it is refused 1.
     #[inline(always)]
-    fn next(&mut self) -> io::Result<Option<Option<Line<'_>>>> {
+    fn next(&mut self) -> io::Result<Next<'_>> {
         if self.to - self.from > 100 && self.block[self.from + 100] == b'\n' {
             let from = self.from;
             // 100 printable bytes hold no line feed.
             if Line::new(&self.block[from..from + 100]).is_some() {
                 self.from += 101;
-                return Ok(Some(Line::new(&self.block[from..from + 100])));
+                return Ok(Next::new(&self.block[from..from + 100]));
             }
         }
         self.next_slowly()
     }
 
     #[inline(never)]
-    fn next_slowly(&mut self) -> io::Result<Option<Option<Line<'_>>>> {
+    fn next_slowly(&mut self) -> io::Result<Next<'_>> {
         let mut searched = 0;
         loop {
             let rest = &self.block[self.from..self.to];
@@ -54,11 +68,12 @@ impl<R: Read> Lines<R> {
                 let from = self.from;
                 let to = from + searched + len;
                 self.from = to + 1;
-                return Ok(Some(Line::new(&self.block[from..to])));
+                return Ok(Next::new(&self.block[from..to]));
             }
             if self.ended {
                 let from = std::mem::replace(&mut self.from, self.to);
-                return Ok((from < self.to).then(|| Line::new(&self.block[from..self.to])));
+                let last = &self.block[from..self.to];
+                return Ok(if last.is_empty() { Next::End } else { Next::new(last) });
             }
             // What remains of a line moves to the front; 101 bytes are enough to refuse it.
             let keep = rest.len().min(101);
@@ -141,13 +156,13 @@ pub fn day(input: impl Read, tape: impl Write, refused: impl Write) -> io::Resul
     let mut refused = Blocks::new(refused);
     let mut number = 0;
     while number < LAST_LINE {
-        let Some(line) = lines.next()? else { break };
-        number += 1;
         let mut print = Tape::new(tape.room());
-        let taken = match line {
-            Some(line) => day.take(line, &mut print),
-            None => Err(Refusal::Bytes),
+        let taken = match lines.next()? {
+            Next::Line(line) => day.take(line, &mut print),
+            Next::Refused => Err(Refusal::Bytes),
+            Next::End => break,
         };
+        number += 1;
         match taken {
             Ok(()) => {
                 let len = print.len();
@@ -170,12 +185,13 @@ pub fn facts(input: impl Read, mut output: impl Write) -> io::Result<()> {
     let mut facts = Facts::default();
     let mut number = 0;
     while number < LAST_LINE {
-        let Some(line) = lines.next()? else { break };
-        number += 1;
-        if let Some(line) = line {
+        match lines.next()? {
             // A refused line shows nothing.
-            let _ = day.take(line, &mut facts);
+            Next::Line(line) => drop(day.take(line, &mut facts)),
+            Next::Refused => {}
+            Next::End => break,
         }
+        number += 1;
         if facts.text.len() >= BLOCK {
             output.write_all(&facts.text)?;
             facts.text.clear();

@@ -2,12 +2,8 @@
 
 use peer::day::Day;
 use peer::program;
+use peer::random::drawn;
 use peer::refusals::Refusal;
-
-/// A line with its trailing blanks drawn.
-fn drawn(line: &str) -> Vec<u8> {
-    format!("{line:<100}").into_bytes()
-}
 
 /// A T, X or E line, or the original of a C line.
 fn trade(kind: char, volume: u32, n: u64, d: u8, letters: &str, previous: &str) -> String {

@@ -4,10 +4,6 @@
 //! TAPES is the number of tapes of each kind (100), SEED the first seed (1); KEEP names a folder that tapes held to the
 //! oracle go to, with what the program writes for each, to try another reader on them.
 
-mod random;
-#[path = "random/tapes.rs"]
-mod random_tapes;
-
 use peer::conditions::{letter, Letters};
 use peer::corrections::CancelKind;
 use peer::day::Day;
@@ -15,9 +11,9 @@ use peer::dice::Dice;
 use peer::facts::{Facts, ShownSide};
 use peer::lines::Line;
 use peer::program;
+use peer::random::tapes::{composed, damage};
+use peer::random::{drawn, random_entry, random_side, trade_line, Entry, Side};
 use peer::reader::{read, ReadFacts};
-use random::{random_entry, random_side, trade_line, Entry, Side};
-use random_tapes::{composed, damage};
 use std::collections::HashSet;
 use std::fs::write;
 use std::path::Path;
@@ -64,7 +60,7 @@ impl Maker {
 /// The prints of a random day in normal mode.
 fn random_prints(dice: &mut Dice, lines: u64) -> Vec<Made> {
     let mut maker = Maker { day: Day::new(), shown: Day::new(), made: Vec::new() };
-    maker.take(&random::drawn("D20030321"), "");
+    maker.take(&drawn("D20030321"), "");
     let mut entries: Vec<(Entry, u32)> = Vec::new();
     while entries.len() < 3 {
         let entry = random_entry(dice);
@@ -79,11 +75,10 @@ fn random_prints(dice: &mut Dice, lines: u64) -> Vec<Made> {
         let (first, second) = (side(), side());
         let plain = entry.name(false);
         let accepted = match dice.below(12) {
-            0 => maker.take(&random::drawn(&format!("V{:>6}", 5_000 + dice.below(95_001))), ""),
+            0 => maker.take(&drawn(&format!("V{:>6}", 5_000 + dice.below(95_001))), ""),
             1 => {
-                maker.take(&random::drawn(&format!("P{:>3}", 1 + dice.below(100))), "");
-                maker.take(&random::drawn(dice.pick(&["MN", "MD", "MR", "MP"])), "")
-                    && maker.take(&random::drawn("MN"), "")
+                maker.take(&drawn(&format!("P{:>3}", 1 + dice.below(100))), "");
+                maker.take(&drawn(dice.pick(&["MN", "MD", "MR", "MP"])), "") && maker.take(&drawn("MN"), "")
             }
             2 | 3 => maker.take(&trade_line('X', number, &[first]), &plain),
             4 => maker.take(&trade_line('E', number, &[first]), &plain),
@@ -125,7 +120,7 @@ fn announcements() -> HashSet<Vec<u8>> {
     let mut day = Day::new();
     let mut take = |line: String| {
         let mut room = [0; 64];
-        let len = day.take_line(&random::drawn(&line), &mut room).unwrap();
+        let len = day.take_line(&drawn(&line), &mut room).unwrap();
         if len > 0 {
             found.insert(room[..len].to_vec());
         }
@@ -320,7 +315,7 @@ fn prints(text: &[u8], candidate: &Candidate) -> bool {
             for unit in [1, 10, 25, 50, 100] {
                 let entry = Entry { unit, network, ..entry.clone() };
                 let mut day = Day::new();
-                day.take_line(&random::drawn("D20030321"), &mut []).unwrap();
+                day.take_line(&drawn("D20030321"), &mut []).unwrap();
                 if day.take_line(&entry.line(1), &mut []).is_err() {
                     break;
                 }

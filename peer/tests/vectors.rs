@@ -1,6 +1,6 @@
 //! Every day file of the vectors: the programs' tape, refusals and facts, byte for byte; every tape: what is read of it.
-//! The day files stand beside the repository, in ../shared/vectors/days, or where VECTORS says; the tapes in the folder
-//! tapes beside that.
+//! The day files stand in crates/vectors/data, the tapes in crates/tapes/data, each with its answers beside it; VECTORS names
+//! another folder of day files, with the tapes in the folder tapes beside that.
 
 use std::fs::{read, File};
 use std::path::{Path, PathBuf};
@@ -13,27 +13,36 @@ fn run(program: &str, arguments: &[&str], file: &Path) -> Output {
     output
 }
 
+/// Standard output, where nothing went to standard error.
+fn alone(output: Output) -> Vec<u8> {
+    assert!(output.stderr.is_empty(), "standard error: {}", String::from_utf8_lossy(&output.stderr));
+    output.stdout
+}
+
 fn same(found: &[u8], file: PathBuf) {
-    let expected = read(&file).expect("the expected file is there");
+    let expected = read(&file).unwrap_or_else(|error| panic!("{}: {error}", file.display()));
     let place = found.iter().zip(&expected).take_while(|(a, b)| a == b).count();
     assert!(found == expected, "{}: differs at byte {place}", file.display());
 }
 
-fn days() -> PathBuf {
-    match std::env::var_os("VECTORS") {
-        Some(path) => PathBuf::from(path),
-        None => Path::new(env!("CARGO_MANIFEST_DIR")).join("../../shared/vectors/days"),
+/// The folders of the day files and of the tapes.
+fn folders() -> (PathBuf, PathBuf) {
+    match std::env::var_os("VECTORS").map(PathBuf::from) {
+        Some(days) => (days.clone(), days.with_file_name("tapes")),
+        None => {
+            let crates = Path::new(env!("CARGO_MANIFEST_DIR")).join("../crates");
+            (crates.join("vectors/data"), crates.join("tapes/data"))
+        }
     }
 }
 
 /// The folder's files with an extension, at least one.
 fn files(folder: &Path, extension: &str) -> Vec<PathBuf> {
-    let entries = std::fs::read_dir(folder)
-        .unwrap_or_else(|error| panic!("no vectors in {}: {error}; VECTORS names the days' folder", folder.display()));
+    let entries = std::fs::read_dir(folder).unwrap_or_else(|error| panic!("no folder {}: {error}", folder.display()));
     let mut files: Vec<PathBuf> = entries.map(|entry| entry.unwrap().path()).collect();
     files.retain(|file| file.extension().is_some_and(|found| found == extension));
     files.sort();
-    assert!(!files.is_empty());
+    assert!(!files.is_empty(), "no .{extension} in {}", folder.display());
     files
 }
 
@@ -43,13 +52,13 @@ fn count_lines(text: &[u8]) -> usize {
 
 #[test]
 fn day_files() {
-    let files = files(&days(), "day");
+    let files = files(&folders().0, "day");
     let mut lines = 0;
     for day in &files {
         let output = run(env!("CARGO_BIN_EXE_day"), &[], day);
         same(&output.stdout, day.with_extension("tape"));
         same(&output.stderr, day.with_extension("refused"));
-        same(&run(env!("CARGO_BIN_EXE_facts"), &[], day).stdout, day.with_extension("facts"));
+        same(&alone(run(env!("CARGO_BIN_EXE_facts"), &[], day)), day.with_extension("facts"));
         lines += count_lines(&read(day).unwrap());
     }
     println!("{} day files, {lines} lines: tape, refusals and facts agree", files.len());
@@ -58,14 +67,14 @@ fn day_files() {
 /// Without --facts a line is the first twenty columns of one with it.
 #[test]
 fn tapes() {
-    let files = files(&days().with_file_name("tapes"), "tape");
+    let files = files(&folders().1, "tape");
     let mut prints = 0;
     for tape in &files {
-        let told = run(env!("CARGO_BIN_EXE_read"), &["--facts"], tape).stdout;
+        let told = alone(run(env!("CARGO_BIN_EXE_read"), &["--facts"], tape));
         same(&told, tape.with_extension("read"));
         let lines = told.split_inclusive(|&byte| byte == b'\n');
         let short: Vec<u8> = lines.flat_map(|line| [&line[..20], b"\n"].concat()).collect();
-        assert!(run(env!("CARGO_BIN_EXE_read"), &[], tape).stdout == short, "{}", tape.display());
+        assert!(alone(run(env!("CARGO_BIN_EXE_read"), &[], tape)) == short, "{}", tape.display());
         prints += count_lines(&told);
     }
     println!("{} tapes, {prints} prints and refusals: place, length, name and facts agree", files.len());

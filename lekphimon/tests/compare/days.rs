@@ -1,5 +1,5 @@
-//! A random day, line by line: the outcome, the print, the shown facts and the state of both engines; after every refusal the day and the
-//! lent tape byte for byte as before.
+//! A random day, line by line: the outcome, the print, the shown facts and the state of both engines; after every refusal the
+//! day and the lent tape byte for byte as before.
 
 use std::fmt;
 

@@ -1,8 +1,7 @@
 //! Random day lines, most of them lawful, some damaged.
 
 use peer::dice::Dice;
-
-use crate::random::{drawn, random_entry, random_side, trade_line, Side};
+use peer::random::{drawn, random_entry, random_side, trade_line, Side};
 
 const MARKETS: &[u8; 10] = b"ABWMCDTNPX";
 

@@ -4,11 +4,6 @@
 mod days;
 mod entries;
 mod lines;
-#[allow(dead_code)]
-#[path = "../../../peer/tests/random/mod.rs"]
-mod random;
-#[path = "../../../peer/tests/random/tapes.rs"]
-mod random_tapes;
 mod tapes;
 
 use std::time::Instant;

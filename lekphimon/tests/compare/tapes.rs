@@ -8,10 +8,9 @@ use peer::corrections::CancelKind;
 use peer::day::Day;
 use peer::dice::Dice;
 use peer::facts::ShownSide;
+use peer::random::tapes::{composed, damage};
+use peer::random::{drawn, random_entry, random_side, trade_line};
 use peer::reader::{read, ReadFacts};
-
-use crate::random::{drawn, random_entry, random_side, trade_line};
-use crate::random_tapes::{composed, damage};
 
 #[derive(Default)]
 pub struct Counts {

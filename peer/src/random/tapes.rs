@@ -1,6 +1,6 @@
 //! Random tapes: damage, and prints put together from parts.
 
-use peer::dice::Dice;
+use crate::dice::Dice;
 
 /// Cuts, doubles, changes or adds something.
 pub fn damage(dice: &mut Dice, tape: &mut Vec<u8>) {

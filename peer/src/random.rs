@@ -1,6 +1,9 @@
-//! Day lines from their fields, and random fields.
+//! Random days and tapes, for the tests of this crate and of lekphimon: day lines from their fields, and random fields; the
+//! damage and the composed prints of tapes are in `tapes`. The same dice give the same lines.
 
-use peer::dice::Dice;
+use crate::dice::Dice;
+
+pub mod tapes;
 
 /// A line with its trailing blanks drawn.
 pub fn drawn(line: &str) -> Vec<u8> {
