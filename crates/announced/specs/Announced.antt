@@ -1,4 +1,4 @@
--- Which texts are announcements, and the one at a place of a tape (document 01, "Announcements", "Reader"; reading 53). Assumes nothing.
+-- Which texts are announcements, and the one at a place of a tape (document 01, "Announcements", "Reader"). Assumes nothing.
 use Prim.Native.Nat.{ℕ, _+_, _*_, _-_, _/_, _≤_}
 use mathlib.Core.Path.{_≡_}
 use mathlib.Core.List.{List, [], _∷_}

@@ -1,5 +1,5 @@
-// What the decisions of the modes compare (document 01, "Modes"): first-day issues, the level, a new high or low, a price
-// unlike the last printed one or far from it, tens and zeros.
+// What the decisions of the modes compare (document 01, "Trades by mode"): first-day issues, the level, a new high or low, a
+// price unlike the last printed one or far from it, tens and zeros.
 use rules::Letters;
 use rules::Mode;
 use rules::Security;

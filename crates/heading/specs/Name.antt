@@ -1,4 +1,4 @@
--- Which texts are names that an S line can enter (document 01, "Names"; reading 51): root, suffix, temporary suffix on trades only, appendage. Assumes nothing.
+-- Which texts are names that an S line can enter (document 01, "Names", "Reader"): root, suffix, temporary suffix on trades only, appendage. Assumes nothing.
 use Prim.Native.Nat.{ℕ, zero, suc, _-_}
 use mathlib.Core.Bool.{Bool, true, false, _&&_, _||_, not}
 use mathlib.Core.List.{List, [], _∷_}

@@ -1,4 +1,4 @@
-// Condition letters in a field of four columns (document 01, "Day lines", "Conditions"): formed, as a set, lawful together.
+// Condition letters in a field of four columns (document 01, "Day lines", "Price and conditions"): formed, as a set, lawful together.
 use rules::Letters;
 ghost use mathlib.Core.Path.{_≡_};
 ghost use mathlib.Core.List.{[], _∷_};

@@ -1,4 +1,4 @@
--- The lines of the reader's program (document 01, "Reader"; readings 55 and 57): one line a print, its place and its length, right-justified in ten columns each, and a line feed. Assumes nothing.
+-- The lines of the reader's program (document 01, "Reader"): one line a print, its place and its length, right-justified in ten columns each, and a line feed. Assumes nothing.
 use Prim.Native.Nat.{ℕ, zero, suc, _+_}
 use mathlib.Core.Bool.{true, false, _&&_}
 use mathlib.Core.List.{List, [], _∷_, _++_}
