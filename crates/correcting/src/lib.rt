@@ -47,10 +47,10 @@ fn prints_in_dvd(st: Settings, s: Security, x: Side, y: Side) -> bool
 {
     let letters = y.letters;
     if differs_at_level(st, x, y) {
-        return true;
+        return true; // prices differ at the level
     }
     if qualifying::has_rule(letters) {
-        return true;
+        return true; // DVD: correcting J or G
     }
     s.unit == 1
 }
@@ -119,16 +119,16 @@ fn prints_in_both(st: Settings, s: Security, x: Side, y: Side) -> bool
     ensures { λ r. ⌜ r ≡ printsInBoth st s x y ⌝ }
 {
     if s.unit == 1 {
-        return true;
+        return true; // unit 1
     }
     if comparing::at_level(st, x.volume) {
-        return true;
+        return true; // the original volume
     }
     if comparing::at_level(st, y.volume) {
-        return true;
+        return true; // the correcting volume
     }
     if seller_differs(x, y) {
-        return true;
+        return true; // R, and prices differ
     }
     moves_price(s, y)
 }
@@ -139,7 +139,7 @@ fn prints_in_rpo(st: Settings, s: Security, x: Side, y: Side) -> bool
 {
     let letters = y.letters; // of the correcting trade alone
     if qualifying::has_rule(letters) {
-        return true;
+        return true; // RPO: correcting J or G
     }
     prints_in_both(st, s, x, y)
 }
@@ -161,7 +161,7 @@ fn prints_in_mpv(st: Settings, s: Security, x: Side, y: Side) -> bool
     ensures { λ r. ⌜ r ≡ ((hasRule (x .letters) || hasRule (y .letters)) || printsInBoth st s x y) ⌝ }
 {
     if either_rule(x, y) {
-        return true;
+        return true; // MPV: J or G on either side
     }
     prints_in_both(st, s, x, y)
 }
