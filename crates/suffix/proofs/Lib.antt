@@ -1,3 +1,3 @@
 pub mod Listed
 pub mod Lawful
-pub mod Short
+pub mod Families

@@ -11,53 +11,53 @@ ghost use Rattle.text.specs.Reading.{starts};
 ghost use Rattle.rules.specs.Columns.{word};
 ghost use Rattle.rules.specs.Names.{texts, listedSuffixes, isClass, isSeries, isPreferred, isSuffix, isTemporary, isAppendage, isReserved, lawfulField, lawfulName};
 
-// The suffixes that are listed one by one, six bytes each, and their lengths.
+// The suffixes that are listed one by one, the shortest first, six bytes each, and their lengths.
 const SUFFIX_BYTES: [u8; 252] =
-    *b"A     A.CL  A.CV  Aw    A.N   B     B.CL  B.CV  Bw    B.N   CL    CT    CV    CVR   CV.CL EC    F.N   PP    PT.CL SC    SP    SD    TT    U     VR    WD    WS    W.WS  WS.A  WS.B  WS.N  WSw   XW    r     rw    w     p     pw    pCL   pCV   pCV.CLpWD   ";
+    *b"A     B     U     r     w     p     Aw    Bw    CL    CT    CV    EC    PP    SC    SP    SD    TT    VR    WD    WS    XW    rw    pw    A.N   B.N   CVR   F.N   WSw   pCL   pCV   pWD   A.CL  A.CV  B.CL  B.CV  W.WS  WS.A  WS.B  WS.N  CV.CL PT.CL pCV.CL";
 
 const SUFFIX_LENGTHS: [usize; 42] = [
     1,
-    4,
-    4,
-    2,
-    3,
     1,
-    4,
-    4,
+    1,
+    1,
+    1,
+    1,
+    2,
+    2,
+    2,
+    2,
+    2,
+    2,
+    2,
+    2,
+    2,
+    2,
+    2,
+    2,
+    2,
+    2,
+    2,
+    2,
     2,
     3,
-    2,
-    2,
-    2,
     3,
+    3,
+    3,
+    3,
+    3,
+    3,
+    3,
+    4,
+    4,
+    4,
+    4,
+    4,
+    4,
+    4,
+    4,
     5,
-    2,
-    3,
-    2,
     5,
-    2,
-    2,
-    2,
-    2,
-    1,
-    2,
-    2,
-    2,
-    4,
-    4,
-    4,
-    4,
-    3,
-    2,
-    1,
-    2,
-    1,
-    1,
-    2,
-    3,
-    3,
     6,
-    3,
 ];
 
 fn is_listed(text: &[u8]) -> bool
@@ -67,8 +67,12 @@ fn is_listed(text: &[u8]) -> bool
     let lengths = SUFFIX_LENGTHS;
     let mut k = 0;
     while k < 42 {
+        let n = lengths[k];
+        if text.len() < n {
+            return false; // those behind are no shorter
+        }
         let from = k * 6;
-        let to = from + lengths[k];
+        let to = from + n;
         if text::same_text(text, &bytes[from..to]) {
             return true;
         }
@@ -148,28 +152,10 @@ fn is_preferred(text: &[u8]) -> bool
     is_preferred_series(text)
 }
 
-// A suffix of one byte.
-fn is_short_suffix(b: u8) -> bool
-    ensures { λ r. ⌜ r ≡ isSuffix (b ∷ []) ⌝ }
-{
-    match b {
-        b'A' => true,
-        b'B' => true,
-        b'U' => true,
-        b'r' => true,
-        b'w' => true,
-        b'p' => true,
-        _ => false,
-    }
-}
-
-// The list is gone through last: it is long.
+// The families are asked first: the list is long.
 pub fn is_suffix(text: &[u8]) -> bool
     ensures { λ r. ⌜ r ≡ isSuffix (now (text .entry)) ⌝ }
 {
-    if text.len() == 1 {
-        return is_short_suffix(text[0]);
-    }
     if is_preferred(text) {
         return true;
     }
