@@ -34,7 +34,7 @@ use Rattle.nameable.proofs.Counts.{drop-front}
 use Rattle.nameable.proofs.Lawful.{name-lawful}
 use Rattle.nameable.proofs.Head.{headRead, head-found}
 use Rattle.sideread.specs.declared.Beside.the-variants.{Alone, With}
-use Rattle.sideread.specs.declared.SideAnswer.the-variants.{Sided, NoSide}
+use Rattle.sideread.specs.declared.SideAnswer.the-variants.{Sided}
 use Rattle.sideread.specs.Side.{sideAt}
 use Rattle.reader.specs.declared.PrintRead.{PrintRead}
 use Rattle.reader.specs.declared.ReadAnswer.{ReadAnswer}
@@ -48,9 +48,8 @@ use Rattle.rules.specs.Correction.{endPair, cancelText}
 use Rattle.volumescan.specs.Volume.{explains}
 use Rattle.sideread.specs.Side.{beside}
 use Rattle.tails.specs.declared.Taken.{Taken}
-use Rattle.reader.specs.declared.EndedAnswer.{EndedAnswer}
-use Rattle.reader.specs.declared.EndedAnswer.the-variants.{Ended, NotEnded}
-use Rattle.reader.specs.Read.{endAt, endedBy, cancelSide, cancelHead, cancelAt}
+use Rattle.reader.specs.declared.ReadAnswer.{ReadAnswer}
+use Rattle.reader.specs.Read.{endAt, amended, endedBy, cancelSide, cancelHead, cancelAt}
 use Rattle.nameable.proofs.Counts.{take-front}
 use Rattle.longest.proofs.Figures.{unmarked-pair}
 use Rattle.longest.proofs.TailExact.{lettersBefore, ended-pair, TailEnd, ended, more}
@@ -62,9 +61,9 @@ pub closes-pair : (s : List ℕ) → Closes (bytes ">>" ++ s)
 unfolding dotDigit
 closes-pair s = record { ends = ended-pair s; dot = refl; mark = unmarked-pair s }
 
-pub record CancelReaches (s : List ℕ) (n : ℕ) : Type 0 where
+pub record CancelReaches (s : List ℕ) (error : Bool) (n : ℕ) : Type 0 where
   pub got : PrintRead
-  pub is : cancelAt s ≡ Ended got
+  pub is : cancelAt s error ≡ amended error got
   pub far : n ≤ got .length
 
 plus-none : (n : ℕ) → n ≡ n + 0
@@ -95,7 +94,7 @@ pair-short x = go (x .letters .g)
     go true = omega arith
     go false = omega arith
 
-module _ (opening : List ℕ) (six : length opening ≡ 6) (network unit : ℕ) (name : List ℕ) (x : Side) (e : Enterable network unit name) (h : Showable network x) (R : List ℕ) where
+module _ (error : Bool) (opening : List ℕ) (six : length opening ≡ 6) (network unit : ℕ) (name : List ℕ) (x : Side) (e : Enterable network unit name) (h : Showable network x) (R : List ℕ) where
   abbrev head : List ℕ
   head = nameText false name ++ afterName (x .letters)
 
@@ -157,7 +156,7 @@ module _ (opening : List ℕ) (six : length opening ≡ 6) (network unit : ℕ) 
   ending end (more g l u s) = omega (end-by-g tape (6 + length head + end .used) (end .side) (ap (λ y. y .g) l), u, pair-short x, arith)
 
   -- THE CANCEL, WHOLE AT LEAST
-  pub cancel-reaches : CancelReaches (cancelText opening (nameText false name) network unit true true x ++ R) (length (cancelText opening (nameText false name) network unit true true x))
+  pub cancel-reaches : CancelReaches (cancelText opening (nameText false name) network unit true true x ++ R) error (length (cancelText opening (nameText false name) network unit true true x))
   unfolding cancelAt cancelHead cancelSide headRead endedBy pick
   cancel-reaches =
       let r = sided in

@@ -24,7 +24,7 @@ use Rattle.compose.specs.Shown.{Showable}
 use Rattle.sideread.specs.declared.Beside.the-variants.{Alone, With}
 use Rattle.sideread.specs.declared.SideRead.{SideRead}
 use Rattle.sideread.specs.declared.SideAnswer.{SideAnswer}
-use Rattle.sideread.specs.declared.SideAnswer.the-variants.{Sided, NoSide}
+use Rattle.sideread.specs.declared.SideAnswer.the-variants.{Sided, Refused as Unsided}
 use Rattle.sideread.specs.Side.{sideAt}
 use Rattle.text.specs.Reading.{starts}
 use Rattle.rules.specs.Names.{nameText}
@@ -67,9 +67,7 @@ use Rattle.announced.proofs.Back.{announced-back, announced-some}
 use Rattle.compose.specs.Printable.{by-mode, by-level, by-cancel, by-error, by-correction}
 use Rattle.compose.proofs.Prints.{printable-normal}
 use Rattle.normal.proofs.Normal.{normal-printable}
-use Rattle.reader.specs.declared.EndedAnswer.{EndedAnswer}
-use Rattle.reader.specs.declared.EndedAnswer.the-variants.{Ended, NotEnded}
-use Rattle.reader.specs.Read.{endedBy, cancelSide, cancelHead, cancelAt, asCancel, asError, correctedBy, secondSide, secondHead, secondAt, correctionSide, correctionHead, correctionAt, announcedBy, printAt, readAt}
+use Rattle.reader.specs.Read.{endedBy, cancelSide, cancelHead, cancelAt, amended, correctedBy, secondSide, secondHead, secondAt, correctionSide, correctionHead, correctionAt, announcedBy, printAt, readAt}
 use Rattle.reader.specs.Told.{lengthOf, nameFrom, nameLength, nameIn, nameAt, factIn}
 use Rattle.longest.specs.Claim.{Longest}
 use Rattle.longest.proofs.Sound.{trade-printable, cancel-told}
@@ -98,7 +96,7 @@ trade-something s h k x e = something _ _ refl (printable-as (trade-printable s 
 
 trade-side-tells : (s : List ℕ) (h : NameRead) → HeadTold true s h → (y : SideAnswer) → sideAt Alone (h .letters) (h .a) (h .b) (drop (h .used) s) ≡ y → Tells s (tradeSide h y)
 unfolding tradeSide
-trade-side-tells s h k NoSide e = nothing NoPrint
+trade-side-tells s h k (Unsided q) e = nothing NoPrint
 trade-side-tells s h k (Sided x) e = trade-something s h k x e
 
 trade-head-tells : (s : List ℕ) (y : NameAnswer) → headAt true s ≡ y → Tells s (tradeHead s y)
@@ -113,42 +111,37 @@ trade-tells s = trade-head-tells s (headAt true s) refl
 -- ---- cancels and errors
 
 -- of either opening
-module _ (opening s : List ℕ) (six : length opening ≡ 6) (opens : starts opening s ≡ true) (kind : Side → ReadFact)
-    (by-kind : (network unit : ℕ) (name : List ℕ) (x : Side) → Enterable network unit name → Showable network x → Printable (cancelText opening (nameText false name) network unit true true x) (nameText false name) (kind x)) where
-  data CancelTells : EndedAnswer → Type 0 where
-    not-told : CancelTells NotEnded
-    told : (x : PrintRead) → Printable (take (x .length) s) (take (x .to - x .from) (drop (x .from) s)) (kind (x .side)) → CancelTells (Ended x)
-
-  cancel-something : (h : NameRead) → HeadTold false (drop 6 s) h → (x : SideRead) → sideAt Alone (h .letters) (h .a) (h .b) (drop (6 + h .used) s) ≡ Sided x → (m : ℕ) → endAt s (6 + h .used + x .taken .used) (x .taken .side) ≡ m → (b : Bool) → eqb m 0 ≡ b → CancelTells (pick b NotEnded (Ended (record { length = m; from = 6; to = 6 + h .length; side = x .taken .side })))
+module _ (error : Bool) (opening s : List ℕ) (six : length opening ≡ 6) (opens : starts opening s ≡ true) (kind : Side → ReadFact)
+    (by-kind : (network unit : ℕ) (name : List ℕ) (x : Side) → Enterable network unit name → Showable network x → Printable (cancelText opening (nameText false name) network unit true true x) (nameText false name) (kind x))
+    (told : (x : PrintRead) → Printable (take (x .length) s) (take (x .to - x .from) (drop (x .from) s)) (kind (x .side)) → Tells s (amended error x)) where
+  cancel-something : (h : NameRead) → HeadTold false (drop 6 s) h → (x : SideRead) → sideAt Alone (h .letters) (h .a) (h .b) (drop (6 + h .used) s) ≡ Sided x → (m : ℕ) → endAt s (6 + h .used + x .taken .used) (x .taken .side) ≡ m → (b : Bool) → eqb m 0 ≡ b → Tells s (pick b (Refused NoPrint) (amended error (record { length = m; from = 6; to = 6 + h .length; side = x .taken .side })))
   unfolding pick
-  cancel-something h k x e m f true z = not-told
+  cancel-something h k x e m f true z = nothing NoPrint
   cancel-something h k x e m f false z =
       let t = cancel-told opening s six opens h k x e m f (nonzero m (eqb-false m 0 z)) in
       told _ (printable-as (by-kind (t .network) (t .unit) (t .name) (x .taken .side) (t .enters) (t .shows)) (t .text) (t .named ∙ ap (λ n. take n (drop 6 s)) (sym (less 6 (h .length)))) refl)
 
-  cancel-side-tells : (h : NameRead) → HeadTold false (drop 6 s) h → (y : SideAnswer) → sideAt Alone (h .letters) (h .a) (h .b) (drop (6 + h .used) s) ≡ y → CancelTells (cancelSide s h y)
+  cancel-side-tells : (h : NameRead) → HeadTold false (drop 6 s) h → (y : SideAnswer) → sideAt Alone (h .letters) (h .a) (h .b) (drop (6 + h .used) s) ≡ y → Tells s (cancelSide s error h y)
   unfolding cancelSide endedBy
-  cancel-side-tells h k NoSide e = not-told
+  cancel-side-tells h k (Unsided q) e = nothing NoPrint
   cancel-side-tells h k (Sided x) e = cancel-something h k x e (endAt s (6 + h .used + x .taken .used) (x .taken .side)) refl (eqb (endAt s (6 + h .used + x .taken .used) (x .taken .side)) 0) refl
 
-  cancel-head-tells : (y : NameAnswer) → headAt false (drop 6 s) ≡ y → CancelTells (cancelHead s y)
+  cancel-head-tells : (y : NameAnswer) → headAt false (drop 6 s) ≡ y → Tells s (cancelHead s error y)
   unfolding cancelHead
-  cancel-head-tells NoName e = not-told
+  cancel-head-tells NoName e = nothing NoPrint
   cancel-head-tells (Named h) e = cancel-side-tells h (head-told false (drop 6 s) h e) (sideAt Alone (h .letters) (h .a) (h .b) (drop (6 + h .used) s)) refl
 
-  cancel-tells : CancelTells (cancelAt s)
+  cancel-tells : Tells s (cancelAt s error)
   unfolding cancelAt
   cancel-tells = cancel-head-tells (headAt false (drop 6 s)) refl
 
-as-cancel : (s : List ℕ) (opens : starts cancelOpening s ≡ true) (y : EndedAnswer) → CancelTells cancelOpening s refl opens (λ x. readCancel (partIn x)) (λ n u m x e h. by-cancel n u m x e h) y → Tells s (asCancel y)
-unfolding asCancel factIn lengthOf nameIn nameLength nameFrom
-as-cancel s opens NotEnded t = nothing NoPrint
-as-cancel s opens (Ended x) (told _ p) = something (Cancel x) _ refl p
+told-cancel : (s : List ℕ) (x : PrintRead) → Printable (take (x .length) s) (take (x .to - x .from) (drop (x .from) s)) (readCancel (partIn (x .side))) → Tells s (amended false x)
+unfolding amended factIn lengthOf nameIn nameLength nameFrom
+told-cancel s x p = something (Cancel x) _ refl p
 
-as-error : (s : List ℕ) (opens : starts errorOpening s ≡ true) (y : EndedAnswer) → CancelTells errorOpening s refl opens (λ x. readError (partIn x)) (λ n u m x e h. by-error n u m x e h) y → Tells s (asError y)
-unfolding asError factIn lengthOf nameIn nameLength nameFrom
-as-error s opens NotEnded t = nothing NoPrint
-as-error s opens (Ended x) (told _ p) = something (Error x) _ refl p
+told-error : (s : List ℕ) (x : PrintRead) → Printable (take (x .length) s) (take (x .to - x .from) (drop (x .from) s)) (readError (partIn (x .side))) → Tells s (amended true x)
+unfolding amended factIn lengthOf nameIn nameLength nameFrom
+told-error s x p = something (Error x) _ refl p
 
 -- ---- corrections
 
@@ -177,7 +170,7 @@ module _ (s : List ℕ) (opens : starts (bytes "<<CORR.") s ≡ true) where
 
       second-side-tells : (y : SideAnswer) → sideAt (With (x .volume)) (g .letters) (x .taken .a) (x .taken .b) (drop (7 + h .used + x .taken .used + 4 + g .used) s) ≡ y → Tells s (secondSide s h (x .taken .side) (7 + h .used + x .taken .used + 4 + g .used) (g .used) y)
       unfolding secondSide
-      second-side-tells NoSide d = nothing NoPrint
+      second-side-tells (Unsided q) d = nothing NoPrint
       second-side-tells (Sided y) d = duly-tells y d (alike (repeatsName (y .taken .side .letters)) (leb 1 (g .used))) refl
 
     second-head-tells : (y : AgainAnswer) → againAt (take (h .length) (drop 7 s)) (drop (7 + h .used + x .taken .used + 4) s) ≡ y → Tells s (secondHead s h x (7 + h .used + x .taken .used + 4) y)
@@ -193,7 +186,7 @@ module _ (s : List ℕ) (opens : starts (bytes "<<CORR.") s ≡ true) where
 
   correction-side-tells : (h : NameRead) → HeadTold false (drop 7 s) h → (y : SideAnswer) → sideAt Alone (h .letters) (h .a) (h .b) (drop (7 + h .used) s) ≡ y → Tells s (correctionSide s h y)
   unfolding correctionSide secondAt
-  correction-side-tells h k NoSide e = nothing NoPrint
+  correction-side-tells h k (Unsided q) e = nothing NoPrint
   correction-side-tells h k (Sided x) e = second-tells h k x e (starts (bytes "WAS.") (drop (7 + h .used + x .taken .used) s)) refl
 
   correction-head-tells : (y : NameAnswer) → headAt false (drop 7 s) ≡ y → Tells s (correctionHead s y)
@@ -224,12 +217,12 @@ announcement-tells s = announcement-by s (announcedLength s) refl (eqb (announce
 -- ---- any print
 
 any-tells : (s : List ℕ) (a b : Bool) → starts (bytes "<<CORR.") s ≡ b → (c : Bool) → starts (bytes "<<CXL.") s ≡ c → (d : Bool) → starts (bytes "<<ERR.") s ≡ d
-    → Tells s (pick a (announcedBy (announcedLength s)) (pick b (correctionAt s) (pick c (asCancel (cancelAt s)) (pick d (asError (cancelAt s)) (tradeAt s)))))
+    → Tells s (pick a (announcedBy (announcedLength s)) (pick b (correctionAt s) (pick c (cancelAt s false) (pick d (cancelAt s true) (tradeAt s)))))
 unfolding pick
 any-tells s true b e c f d g = announcement-tells s
 any-tells s false true e c f d g = correction-tells s e
-any-tells s false false e true f d g = as-cancel s f (cancelAt s) (cancel-tells cancelOpening s refl f (λ x. readCancel (partIn x)) (λ n u m x e h. by-cancel n u m x e h))
-any-tells s false false e false f true g = as-error s g (cancelAt s) (cancel-tells errorOpening s refl g (λ x. readError (partIn x)) (λ n u m x e h. by-error n u m x e h))
+any-tells s false false e true f d g = cancel-tells false cancelOpening s refl f (λ x. readCancel (partIn x)) (λ n u m x e h. by-cancel n u m x e h) (told-cancel s)
+any-tells s false false e false f true g = cancel-tells true errorOpening s refl g (λ x. readError (partIn x)) (λ n u m x e h. by-error n u m x e h) (told-error s)
 any-tells s false false e false f false g = trade-tells s
 
 print-tells : (s : List ℕ) → Tells s (printAt s)
@@ -247,11 +240,11 @@ first-correction : (s : List ℕ) → starts (bytes "<<<") s ≡ false → start
 unfolding printAt pick
 first-correction s a b = rw (a, b)
 
-first-cancel : (s : List ℕ) → starts (bytes "<<<") s ≡ false → starts (bytes "<<CORR.") s ≡ false → starts (bytes "<<CXL.") s ≡ true → printAt s ≡ asCancel (cancelAt s)
+first-cancel : (s : List ℕ) → starts (bytes "<<<") s ≡ false → starts (bytes "<<CORR.") s ≡ false → starts (bytes "<<CXL.") s ≡ true → printAt s ≡ cancelAt s false
 unfolding printAt pick
 first-cancel s a b c = rw (a, b, c)
 
-first-error : (s : List ℕ) → starts (bytes "<<<") s ≡ false → starts (bytes "<<CORR.") s ≡ false → starts (bytes "<<CXL.") s ≡ false → starts (bytes "<<ERR.") s ≡ true → printAt s ≡ asError (cancelAt s)
+first-error : (s : List ℕ) → starts (bytes "<<<") s ≡ false → starts (bytes "<<CORR.") s ≡ false → starts (bytes "<<CXL.") s ≡ false → starts (bytes "<<ERR.") s ≡ true → printAt s ≡ cancelAt s true
 unfolding printAt pick
 first-error s a b c d = rw (a, b, c, d)
 
@@ -287,11 +280,11 @@ module _ (network unit : ℕ) (name : List ℕ) (e : Enterable network unit name
   unfolding sideText headText opt
   trade-letter x R = ap (heads isLetter) (front-first (nameText true name) (afterName (x .letters)) (volumeText network unit (x .volume)) (priceText true (x .price)) (tailText x) R) ∙ heads-append isLetter (nameText true name) _ (name-head network name (e .plain) true)
 
-  cancel-first : (x : Side) (R : List ℕ) → printAt (cancelText cancelOpening (nameText false name) network unit true true x ++ R) ≡ asCancel (cancelAt (cancelText cancelOpening (nameText false name) network unit true true x ++ R))
+  cancel-first : (x : Side) (R : List ℕ) → printAt (cancelText cancelOpening (nameText false name) network unit true true x ++ R) ≡ cancelAt (cancelText cancelOpening (nameText false name) network unit true true x ++ R) false
   unfolding cancelText starts
   cancel-first x R = first-cancel (cancelText cancelOpening (nameText false name) network unit true true x ++ R) refl refl refl
 
-  error-first : (x : Side) (R : List ℕ) → printAt (cancelText errorOpening (nameText false name) network unit true true x ++ R) ≡ asError (cancelAt (cancelText errorOpening (nameText false name) network unit true true x ++ R))
+  error-first : (x : Side) (R : List ℕ) → printAt (cancelText errorOpening (nameText false name) network unit true true x ++ R) ≡ cancelAt (cancelText errorOpening (nameText false name) network unit true true x ++ R) true
   unfolding cancelText starts
   error-first x R = first-error (cancelText errorOpening (nameText false name) network unit true true x ++ R) refl refl refl refl
 
@@ -308,15 +301,15 @@ module _ (network unit : ℕ) (name : List ℕ) (e : Enterable network unit name
       rw (first-trade s (not-mark _ s l) (not-mark _ s l) (not-mark _ s l) (not-mark _ s l), r .is) (r .far)
 
   cancel-reached : (x : Side) → Showable network x → (R : List ℕ) → length (cancelText cancelOpening (nameText false name) network unit true true x) ≤ lengthOf (printAt (cancelText cancelOpening (nameText false name) network unit true true x ++ R))
-  unfolding lengthOf asCancel
+  unfolding lengthOf amended
   cancel-reached x h R =
-      let r = cancel-reaches cancelOpening refl network unit name x e h R in
+      let r = cancel-reaches false cancelOpening refl network unit name x e h R in
       rw (cancel-first x R, r .is) (r .far)
 
   error-reached : (x : Side) → Showable network x → (R : List ℕ) → length (cancelText errorOpening (nameText false name) network unit true true x) ≤ lengthOf (printAt (cancelText errorOpening (nameText false name) network unit true true x ++ R))
-  unfolding lengthOf asError
+  unfolding lengthOf amended
   error-reached x h R =
-      let r = cancel-reaches errorOpening refl network unit name x e h R in
+      let r = cancel-reaches true errorOpening refl network unit name x e h R in
       rw (error-first x R, r .is) (r .far)
 
   correction-reached : (x y : Side) → Showable network x → Showable network y → (R : List ℕ) → length (correctionText (nameText false name) network unit true true x y) ≤ lengthOf (printAt (correctionText (nameText false name) network unit true true x y ++ R))

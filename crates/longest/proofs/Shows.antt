@@ -48,7 +48,7 @@ use Rattle.sideread.specs.declared.Beside.{Beside}
 use Rattle.sideread.specs.declared.Beside.the-variants.{Alone, With}
 use Rattle.sideread.specs.declared.SideRead.{SideRead}
 use Rattle.sideread.specs.declared.SideAnswer.{SideAnswer}
-use Rattle.sideread.specs.declared.SideAnswer.the-variants.{Sided, NoSide}
+use Rattle.sideread.specs.declared.SideAnswer.the-variants.{Sided}
 use Rattle.sideread.specs.Side.{headCount, beside, sidedBy, sideWith, saidSide, orElse, sideAt}
 use Rattle.longest.proofs.Side.{Unit, daysHere, numberHere, decimalsHere, Headed, SideTold, same-bit}
 

@@ -48,7 +48,9 @@ use Rattle.sideread.specs.declared.Beside.{Beside}
 use Rattle.sideread.specs.declared.Beside.the-variants.{Alone, With}
 use Rattle.sideread.specs.declared.SideRead.{SideRead}
 use Rattle.sideread.specs.declared.SideAnswer.{SideAnswer}
-use Rattle.sideread.specs.declared.SideAnswer.the-variants.{Sided, NoSide}
+use Rattle.rules.specs.declared.Refusal.{Refusal}
+use Rattle.rules.specs.declared.Refusal.the-variants.{NoPrint}
+use Rattle.sideread.specs.declared.SideAnswer.the-variants.{Sided, Refused as Unsided}
 use Rattle.sideread.specs.Side.{headCount, beside, sidedBy, sideWith, saidSide, orElse, sideAt}
 
 -- ---- one unit of trading explains
@@ -195,9 +197,9 @@ more m n = omega arith
 
 isSide : SideAnswer → Bool
 isSide (Sided x) = true
-isSide NoSide = false
+isSide (Unsided q) = false
 
-pub no-side : (x : SideRead) → NoSide ≡ Sided x → ⊥
+pub no-side : {q : Refusal} (x : SideRead) → Unsided q ≡ Sided x → ⊥
 unfolding isSide
 no-side x e = false-true (ap isSide e)
 
@@ -206,7 +208,7 @@ anySide = record { volume = Unsaid; taken = record { side = record { volume = 0;
 
 unfoldable pub sideIn : SideAnswer → SideRead
 sideIn (Sided x) = x
-sideIn NoSide = anySide
+sideIn (Unsided q) = anySide
 
 -- a front of a list in two steps
 pub two-fronts : (s : List ℕ) (m n : ℕ) → take (m + n) s ≡ take m s ++ take n (drop m s)
@@ -262,7 +264,7 @@ module _ (first : Beside) (letters : Letters) (a b : Bool) (part : List ℕ) (h 
   told-by NoPrice e o x k = absurd (no-side x k)
   told-by (Priced p) e o x k = subst (SideTold first letters a b part) (ap sideIn k) (told-priced p e o)
 
-  told-pick : (t : Bool) → (yes-a || yes-b) ≡ t → (x : SideRead) → pick t (sidedBy part letters v used yes-a yes-b (priceAt (drop used part))) NoSide ≡ Sided x → SideTold first letters a b part x
+  told-pick : (t : Bool) → (yes-a || yes-b) ≡ t → (x : SideRead) → pick t (sidedBy part letters v used yes-a yes-b (priceAt (drop used part))) (Unsided NoPrint) ≡ Sided x → SideTold first letters a b part x
   unfolding pick
   told-pick true o x k = told-by (priceAt (drop used part)) refl o x k
   told-pick false o x k = absurd (no-side x k)
@@ -283,7 +285,7 @@ module _ (first : Beside) (letters : Letters) (a b : Bool) (part : List ℕ) (h 
 
   either-told : (y : SideAnswer) → saidSide first letters a b part (volumeAt part) ≡ y → (x : SideRead) → orElse y (sideWith first letters a b part Unsaid 0) ≡ Sided x → SideTold first letters a b part x
   unfolding orElse sideIn
-  either-told NoSide e x k = unsaid-told x k
+  either-told (Unsided q) e x k = unsaid-told x k
   either-told (Sided z) e x k = said-told (volumeAt part) refl x (e ∙ k)
 
   -- WHAT IS READ STANDS THERE

@@ -41,7 +41,8 @@ use Rattle.sideread.specs.declared.Beside.{Beside}
 use Rattle.sideread.specs.declared.Beside.the-variants.{Alone}
 use Rattle.sideread.specs.declared.SideRead.{SideRead}
 use Rattle.sideread.specs.declared.SideAnswer.{SideAnswer}
-use Rattle.sideread.specs.declared.SideAnswer.the-variants.{Sided, NoSide}
+use Rattle.rules.specs.declared.Refusal.the-variants.{NoPrint}
+use Rattle.sideread.specs.declared.SideAnswer.the-variants.{Sided, Refused as Unsided}
 use Rattle.sideread.specs.Side.{headCount, beside, sidedBy, sideWith, saidSide, orElse, sideAt}
 use borrow.Author.Tests.{eqb-true, leb-true, ltb-true, not-true}
 use Rattle.text.specs.Reading.{heads, isDigit, dotDigit}
@@ -317,14 +318,14 @@ pub record Reaches (answer : SideAnswer) (n : ℕ) : Type 0 where
 pub some-not-none : (c : ℕ) (s : List ℕ) → c ∷ s ≡ [] → ⊥
 some-not-none c s e = omega (ap length e, arith)
 
-by-none : {y : SideAnswer} {n : ℕ} → Reaches y n → Reaches (orElse NoSide y) n
+by-none : {y : SideAnswer} {n : ℕ} → Reaches y n → Reaches (orElse (Unsided NoPrint) y) n
 unfolding orElse
 by-none r = r
 
 by-either : (z y : SideAnswer) (n : ℕ) → Reaches y n → ((g : SideRead) → z ≡ Sided g → n ≤ g .taken .used) → Reaches (orElse z y) n
 unfolding orElse
 by-either (Sided g) y n r k = record { got = g; is = refl; far = k g refl }
-by-either NoSide y n r k = r
+by-either (Unsided q) y n r k = r
 
 said-first : (first : Beside) (letters : Letters) (a b : Bool) (part : List ℕ) (v : VolumeRead) {n : ℕ} → volumeAt part ≡ Said v → Reaches (sideWith first letters a b part (v .volume) (v .used)) n → Reaches (orElse (saidSide first letters a b part (volumeAt part)) (sideWith first letters a b part Unsaid 0)) n
 unfolding saidSide orElse
@@ -335,7 +336,7 @@ unfolding sidedBy sideIn
 forward-by part letters v used a b NoPrice y e = absurd (no-side y e)
 forward-by part letters v used a b (Priced p) y e = subst (λ z. used ≤ z .taken .used) (ap sideIn e) (omega (tail-forward part (beginning letters v used a b p), arith))
 
-forward-pick : (t : Bool) (part : List ℕ) (letters : Letters) (v : Volume) (used : ℕ) (a b : Bool) (p : PriceAnswer) (y : SideRead) → pick t (sidedBy part letters v used a b p) NoSide ≡ Sided y → used ≤ y .taken .used
+forward-pick : (t : Bool) (part : List ℕ) (letters : Letters) (v : Volume) (used : ℕ) (a b : Bool) (p : PriceAnswer) (y : SideRead) → pick t (sidedBy part letters v used a b p) (Unsided NoPrint) ≡ Sided y → used ≤ y .taken .used
 unfolding pick
 forward-pick true part letters v used a b p y e = forward-by part letters v used a b p y e
 forward-pick false part letters v used a b p y e = absurd (no-side y e)

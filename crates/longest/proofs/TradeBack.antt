@@ -32,7 +32,7 @@ use Rattle.nameable.proofs.Counts.{drop-front}
 use Rattle.nameable.proofs.Lawful.{name-lawful}
 use Rattle.nameable.proofs.Head.{headRead, head-found}
 use Rattle.sideread.specs.declared.Beside.the-variants.{Alone, With}
-use Rattle.sideread.specs.declared.SideAnswer.the-variants.{Sided, NoSide}
+use Rattle.sideread.specs.declared.SideAnswer.the-variants.{Sided}
 use Rattle.sideread.specs.Side.{sideAt}
 use Rattle.reader.specs.declared.PrintRead.{PrintRead}
 use Rattle.reader.specs.declared.ReadAnswer.{ReadAnswer}

@@ -31,13 +31,11 @@ use Rattle.sideread.specs.declared.Beside.{Beside}
 use Rattle.sideread.specs.declared.Beside.the-variants.{Alone, With}
 use Rattle.sideread.specs.declared.SideRead.{SideRead}
 use Rattle.sideread.specs.declared.SideAnswer.{SideAnswer}
-use Rattle.sideread.specs.declared.SideAnswer.the-variants.{Sided, NoSide}
+use Rattle.sideread.specs.declared.SideAnswer.the-variants.{Sided, Refused as Unsided}
 use Rattle.sideread.specs.Side.{sideAt}
 use Rattle.reader.specs.declared.ReadAnswer.{ReadAnswer}
 use Rattle.reader.specs.declared.ReadAnswer.the-variants.{Announcement, Trade, Cancel, Error, Correction, Refused}
-use Rattle.reader.specs.declared.EndedAnswer.{EndedAnswer}
-use Rattle.reader.specs.declared.EndedAnswer.the-variants.{Ended, NotEnded}
-use Rattle.reader.specs.Read.{tradeSide, tradeHead, tradeAt, endAt, endedBy, cancelSide, cancelHead, cancelAt, asCancel, asError, correctedBy, secondSide, secondHead, secondAt, correctionSide, correctionHead, correctionAt, announcedBy, printAt, readAt}
+use Rattle.reader.specs.Read.{tradeSide, tradeHead, tradeAt, endAt, endedBy, cancelSide, cancelHead, cancelAt, amended, correctedBy, secondSide, secondHead, secondAt, correctionSide, correctionHead, correctionAt, announcedBy, printAt, readAt}
 use Rattle.reader.specs.Told.{lengthOf, nameFrom, nameLength, nameIn, nameAt}
 use Rattle.reader.proofs.Rooms.{head-room, name-room, trade-room, both-room, again-room, second-room, end-room, was-room, correction-room, cancel-room, error-room}
 
@@ -60,7 +58,7 @@ chosen s false x y h k = k refl
 module _ (s : List ℕ) (head : NameAnswer) (e : head ≡ headAt true s) where
   trade-side : (h : NameRead) → head ≡ Named h → (side : SideAnswer) → side ≡ sideAt Alone (h .letters) (h .a) (h .b) (drop (h .used) s) → Within s (tradeSide h side)
   unfolding tradeSide lengthOf nameFrom nameLength
-  trade-side h n NoSide f = refused s
+  trade-side h n (Unsided r) f = refused s
   trade-side h n (Sided x) f = record {
     print = trade-room s true head h e n Alone (h .letters) (h .a) (h .b) (Sided x) x f refl;
     name = omega (arith, head-used true s h head e n, head-length true s h head e n);
@@ -82,37 +80,37 @@ end-within s n x h = go (x .letters .g) (starts (bytes ">>") (drop n s)) refl
     go false false e = omega arith
 
 -- a cancel or an error
-pub record EndedWithin (s : List ℕ) (r : EndedAnswer) : Type 0 where
-  pub cancel : Within s (asCancel r)
-  pub error : Within s (asError r)
-
-not-ended : (s : List ℕ) → EndedWithin s NotEnded
-unfolding asCancel asError
-not-ended s = record { cancel = refused s; error = refused s }
-
-ended-within : (s : List ℕ) (h : NameRead) (x : Side) (n : ℕ) → n ≤ length s → 6 + h .length ≤ length s → EndedWithin s (endedBy h x n)
-unfolding endedBy pick asCancel asError lengthOf nameFrom nameLength
-ended-within s h x n k l = go (eqb n 0)
+amended-within : (s : List ℕ) (error : Bool) (h : NameRead) (x : Side) (n : ℕ) → n ≤ length s → 6 + h .length ≤ length s → Within s (amended error (record { length = n; from = 6; to = 6 + h .length; side = x }))
+unfolding amended lengthOf nameFrom nameLength
+amended-within s error h x n k l = go error
   where
     m : 6 + (6 + h .length - 6) ≤ length s
     m = omega arith
 
-    go : (b : Bool) → EndedWithin s (pick b NotEnded (Ended (record { length = n; from = 6; to = 6 + h .length; side = x })))
-    go true = not-ended s
-    go false = record { cancel = record { print = k; name = m }; error = record { print = k; name = m } }
+    go : (b : Bool) → Within s (amended b (record { length = n; from = 6; to = 6 + h .length; side = x }))
+    go true = record { print = k; name = m }
+    go false = record { print = k; name = m }
 
-module _ (s : List ℕ) (room : 6 ≤ length s) where
-  cancel-side : (head : NameAnswer) → head ≡ headAt false (drop 6 s) → (h : NameRead) → head ≡ Named h → (side : SideAnswer) → side ≡ sideAt Alone (h .letters) (h .a) (h .b) (drop (6 + h .used) s) → EndedWithin s (cancelSide s h side)
+ended-within : (s : List ℕ) (error : Bool) (h : NameRead) (x : Side) (n : ℕ) → n ≤ length s → 6 + h .length ≤ length s → Within s (endedBy error h x n)
+unfolding endedBy pick
+ended-within s error h x n k l = go (eqb n 0)
+  where
+    go : (b : Bool) → Within s (pick b (Refused NoPrint) (amended error (record { length = n; from = 6; to = 6 + h .length; side = x })))
+    go true = refused s
+    go false = amended-within s error h x n k l
+
+module _ (s : List ℕ) (error : Bool) (room : 6 ≤ length s) where
+  cancel-side : (head : NameAnswer) → head ≡ headAt false (drop 6 s) → (h : NameRead) → head ≡ Named h → (side : SideAnswer) → side ≡ sideAt Alone (h .letters) (h .a) (h .b) (drop (6 + h .used) s) → Within s (cancelSide s error h side)
   unfolding cancelSide
-  cancel-side head e h n NoSide f = not-ended s
-  cancel-side head e h n (Sided x) f = ended-within s h (x .taken .side) (endAt s (6 + h .used + x .taken .used) (x .taken .side)) (end-within s (6 + h .used + x .taken .used) (x .taken .side) (both-room s 6 false head h room e n Alone (h .letters) (h .a) (h .b) (Sided x) x f refl)) (name-room s 6 false head h room e n)
+  cancel-side head e h n (Unsided r) f = refused s
+  cancel-side head e h n (Sided x) f = ended-within s error h (x .taken .side) (endAt s (6 + h .used + x .taken .used) (x .taken .side)) (end-within s (6 + h .used + x .taken .used) (x .taken .side) (both-room s 6 false head h room e n Alone (h .letters) (h .a) (h .b) (Sided x) x f refl)) (name-room s 6 false head h room e n)
 
-  cancel-head : (head : NameAnswer) → head ≡ headAt false (drop 6 s) → EndedWithin s (cancelHead s head)
+  cancel-head : (head : NameAnswer) → head ≡ headAt false (drop 6 s) → Within s (cancelHead s error head)
   unfolding cancelHead
-  cancel-head NoName e = not-ended s
+  cancel-head NoName e = refused s
   cancel-head (Named h) e = cancel-side (Named h) e h refl (sideAt Alone (h .letters) (h .a) (h .b) (drop (6 + h .used) s)) refl
 
-  cancel-within : EndedWithin s (cancelAt s)
+  cancel-within : Within s (cancelAt s error)
   unfolding cancelAt
   cancel-within = cancel-head (headAt false (drop 6 s)) refl
 
@@ -124,7 +122,7 @@ corrected-within s h x y n k l = chosen s (eqb n 0) (Refused NoPrint) (Correctio
 module _ (s : List ℕ) (h : NameRead) (named : 7 + h .length ≤ length s) where
   second-side : (x : Side) (n u : ℕ) (side : SideAnswer) → ((y : SideRead) → side ≡ Sided y → n + y .taken .used ≤ length s) → Within s (secondSide s h x n u side)
   unfolding secondSide
-  second-side x n u NoSide k = refused s
+  second-side x n u (Unsided r) k = refused s
   second-side x n u (Sided y) k = chosen s (alike (repeatsName (y .taken .side .letters)) (leb 1 u)) (correctedBy h x (y .taken .side) (endAt s (n + y .taken .used) (y .taken .side))) (Refused NoPrint) (λ e. corrected-within s h x (y .taken .side) (endAt s (n + y .taken .used) (y .taken .side)) (end-within s (n + y .taken .used) (y .taken .side) (k y refl)) named) (λ e. refused s)
 
   second-head : (x : SideRead) (n : ℕ) → n ≤ length s → (name : List ℕ) (again : AgainAnswer) → again ≡ againAt name (drop n s) → Within s (secondHead s h x n again)
@@ -144,7 +142,7 @@ module _ (s : List ℕ) (h : NameRead) (named : 7 + h .length ≤ length s) wher
 module _ (s : List ℕ) (room : 7 ≤ length s) where
   correction-side : (h : NameRead) → 7 + h .length ≤ length s → (side : SideAnswer) → Within s (correctionSide s h side)
   unfolding correctionSide
-  correction-side h n NoSide = refused s
+  correction-side h n (Unsided r) = refused s
   correction-side h n (Sided x) = second-at s h n x (7 + h .used + x .taken .used)
 
   correction-head : (head : NameAnswer) → head ≡ headAt false (drop 7 s) → Within s (correctionHead s head)
@@ -165,8 +163,8 @@ unfolding printAt tradeAt
 print-within s =
     chosen s (starts (bytes "<<<") s) _ _ (λ e. announced-by s (announcedLength s) (announced-within s (announcedLength s) refl))
     (λ e. chosen s (starts (bytes "<<CORR.") s) _ _ (λ f. correction-within s (correction-room s true (sym f) refl))
-    (λ f. chosen s (starts (bytes "<<CXL.") s) _ _ (λ g. cancel-within s (cancel-room s true (sym g) refl) .cancel)
-    (λ g. chosen s (starts (bytes "<<ERR.") s) _ _ (λ h. cancel-within s (error-room s true (sym h) refl) .error)
+    (λ f. chosen s (starts (bytes "<<CXL.") s) _ _ (λ g. cancel-within s false (cancel-room s true (sym g) refl))
+    (λ g. chosen s (starts (bytes "<<ERR.") s) _ _ (λ h. cancel-within s true (error-room s true (sym h) refl))
     (λ h. trade-within s (headAt true s) refl))))
 
 -- ---- past the end of a tape

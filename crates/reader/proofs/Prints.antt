@@ -12,6 +12,7 @@ use Rattle.text.specs.Reading.{starts}
 use Rattle.text.proofs.Parts.{rest-is}
 use Rattle.rules.specs.Correction.{repeatsName}
 use Rattle.rules.specs.Line.{alike}
+use Rattle.rules.specs.declared.Refusal.{Refusal}
 use Rattle.rules.specs.declared.Refusal.the-variants.{NoPrint}
 use Rattle.rules.specs.declared.Letters.{Letters}
 use Rattle.rules.specs.declared.Side.{Side}
@@ -26,14 +27,12 @@ use Rattle.heading.specs.Head.{headAt, againAt}
 use Rattle.sideread.specs.declared.Beside.the-variants.{Alone, With}
 use Rattle.sideread.specs.declared.SideRead.{SideRead}
 use Rattle.sideread.specs.declared.SideAnswer.{SideAnswer}
-use Rattle.sideread.specs.declared.SideAnswer.the-variants.{Sided, NoSide}
+use Rattle.sideread.specs.declared.SideAnswer.the-variants.{Sided, Refused as Unsided}
 use Rattle.sideread.specs.Side.{sideAt}
 use Rattle.reader.specs.declared.PrintRead.{PrintRead}
 use Rattle.reader.specs.declared.ReadAnswer.{ReadAnswer}
 use Rattle.reader.specs.declared.ReadAnswer.the-variants.{Announcement, Trade, Cancel, Error, Correction, Refused}
-use Rattle.reader.specs.declared.EndedAnswer.{EndedAnswer}
-use Rattle.reader.specs.declared.EndedAnswer.the-variants.{Ended, NotEnded}
-use Rattle.reader.specs.Read.{tradeSide, tradeHead, tradeAt, endAt, endedBy, cancelSide, cancelHead, cancelAt, asCancel, asError, correctedBy, secondSide, secondHead, secondAt, correctionSide, correctionHead, correctionAt, announcedBy, printAt, readAt}
+use Rattle.reader.specs.Read.{tradeSide, tradeHead, tradeAt, endAt, endedBy, cancelSide, cancelHead, cancelAt, amended, correctedBy, secondSide, secondHead, secondAt, correctionSide, correctionHead, correctionAt, announcedBy, printAt, readAt}
 
 -- ---- a trade
 
@@ -51,9 +50,9 @@ module _ (s : List ℕ) (head : NameAnswer) where
     unfolding tradeHead
     trade-sides = rw (n, e)
 
-    pub trade-unsided : side ≡ NoSide → Refused NoPrint ≡ tradeHead s head
+    pub trade-unsided : (q : Refusal) → side ≡ Unsided q → Refused NoPrint ≡ tradeHead s head
     unfolding tradeSide
-    trade-unsided f = rw (trade-sides, f)
+    trade-unsided q f = rw (trade-sides, f)
 
     pub trade-sided : (x : SideRead) → side ≡ Sided x → Trade (record { length = h .used + x .taken .used; from = 0; to = h .length; side = x .taken .side }) ≡ tradeHead s head
     unfolding tradeSide
@@ -77,57 +76,47 @@ module _ (s : List ℕ) (n : ℕ) (x : Side) where
 
 -- ---- a cancel or an error
 
-module _ (h : NameRead) (x : Side) (n : ℕ) where
-  pub ended-not : n ≡ 0 → NotEnded ≡ endedBy h x n
+module _ (error : Bool) (p : PrintRead) where
+  pub amended-error : error ≡ true → Error p ≡ amended error p
+  unfolding amended
+  amended-error e = rw e
+
+  pub amended-cancel : error ≡ false → Cancel p ≡ amended error p
+  unfolding amended
+  amended-cancel e = rw e
+
+pub ruleset amendments = (amended-error, amended-cancel)
+
+module _ (error : Bool) (h : NameRead) (x : Side) (n : ℕ) where
+  pub ended-not : n ≡ 0 → Refused NoPrint ≡ endedBy error h x n
   unfolding endedBy pick
   ended-not e = rw (eq-eqb n 0 e)
 
-  pub ended-is : (n ≡ 0 → ⊥) → Ended (record { length = n; from = 6; to = 6 + h .length; side = x }) ≡ endedBy h x n
+  pub ended-is : (r : ReadAnswer) → (n ≡ 0 → ⊥) → r ≡ amended error (record { length = n; from = 6; to = 6 + h .length; side = x }) → r ≡ endedBy error h x n
   unfolding endedBy pick
-  ended-is e = rw (ne-eqb n 0 e)
+  ended-is r e k = rw (ne-eqb n 0 e) k
 
-module _ (s : List ℕ) (head : NameAnswer) where
-  pub cancel-unnamed : head ≡ NoName → NotEnded ≡ cancelHead s head
+module _ (s : List ℕ) (error : Bool) (head : NameAnswer) where
+  pub cancel-unnamed : head ≡ NoName → Refused NoPrint ≡ cancelHead s error head
   unfolding cancelHead
   cancel-unnamed e = rw e
 
-  pub cancel-is : (r : EndedAnswer) → head ≡ headAt false (drop 6 s) → r ≡ cancelHead s head → r ≡ cancelAt s
+  pub cancel-is : (r : ReadAnswer) → head ≡ headAt false (drop 6 s) → r ≡ cancelHead s error head → r ≡ cancelAt s error
   unfolding cancelAt
-  cancel-is r e k = k ∙ ap (cancelHead s) e
+  cancel-is r e k = k ∙ ap (cancelHead s error) e
 
   module _ (h : NameRead) (n : head ≡ Named h) (side : SideAnswer) (e : side ≡ sideAt Alone (h .letters) (h .a) (h .b) (drop (6 + h .used) s)) where
-    cancel-sides : cancelHead s head ≡ cancelSide s h side
+    cancel-sides : cancelHead s error head ≡ cancelSide s error h side
     unfolding cancelHead
     cancel-sides = rw (n, e)
 
-    pub cancel-unsided : side ≡ NoSide → NotEnded ≡ cancelHead s head
+    pub cancel-unsided : (q : Refusal) → side ≡ Unsided q → Refused NoPrint ≡ cancelHead s error head
     unfolding cancelSide
-    cancel-unsided f = rw (cancel-sides, f)
+    cancel-unsided q f = rw (cancel-sides, f)
 
-    pub cancel-sided : (x : SideRead) (end : ℕ) (r : EndedAnswer) → side ≡ Sided x → end ≡ endAt s (6 + h .used + x .taken .used) (x .taken .side) → r ≡ endedBy h (x .taken .side) end → r ≡ cancelHead s head
+    pub cancel-sided : (x : SideRead) (end : ℕ) (r : ReadAnswer) → side ≡ Sided x → end ≡ endAt s (6 + h .used + x .taken .used) (x .taken .side) → r ≡ endedBy error h (x .taken .side) end → r ≡ cancelHead s error head
     unfolding cancelSide
-    cancel-sided x end r f g k = rw (cancel-sides, f) (k ∙ ap (endedBy h (x .taken .side)) g)
-
-module _ (x : EndedAnswer) where
-  pub as-cancel-not : x ≡ NotEnded → Refused NoPrint ≡ asCancel x
-  unfolding asCancel
-  as-cancel-not e = rw e
-
-  pub as-cancel-is : (p : PrintRead) → x ≡ Ended p → Cancel p ≡ asCancel x
-  unfolding asCancel
-  as-cancel-is p e = rw e
-
-  pub as-error-not : x ≡ NotEnded → Refused NoPrint ≡ asError x
-  unfolding asError
-  as-error-not e = rw e
-
-  pub as-error-is : (p : PrintRead) → x ≡ Ended p → Error p ≡ asError x
-  unfolding asError
-  as-error-is p e = rw e
-
-pub ruleset cancels = (as-cancel-not, as-cancel-is)
-
-pub ruleset errors = (as-error-not, as-error-is)
+    cancel-sided x end r f g k = rw (cancel-sides, f) (k ∙ ap (endedBy error h (x .taken .side)) g)
 
 -- ---- a correction
 
@@ -175,9 +164,9 @@ module _ (s : List ℕ) (h : NameRead) (x : SideRead) (n : ℕ) (again : AgainAn
     unfolding secondHead
     second-sides = rw (e, f)
 
-    pub second-unsided : side ≡ NoSide → Refused NoPrint ≡ secondHead s h x n again
+    pub second-unsided : (q : Refusal) → side ≡ Unsided q → Refused NoPrint ≡ secondHead s h x n again
     unfolding secondSide
-    second-unsided k = rw (second-sides, k)
+    second-unsided q k = rw (second-sides, k)
 
     pub second-sided : (y : SideRead) (r : ReadAnswer) → side ≡ Sided y → r ≡ secondSide s h (x .taken .side) (n + g .used) (g .used) (Sided y) → r ≡ secondHead s h x n again
     second-sided y r k l = rw (second-sides, k) l
@@ -205,9 +194,9 @@ module _ (s : List ℕ) (head : NameAnswer) where
     unfolding correctionHead
     correction-sides = rw (n, e)
 
-    pub correction-unsided : side ≡ NoSide → Refused NoPrint ≡ correctionHead s head
+    pub correction-unsided : (q : Refusal) → side ≡ Unsided q → Refused NoPrint ≡ correctionHead s head
     unfolding correctionSide
-    correction-unsided f = rw (correction-sides, f)
+    correction-unsided q f = rw (correction-sides, f)
 
     pub correction-sided : (x : SideRead) (r : ReadAnswer) → side ≡ Sided x → r ≡ secondAt s h x (7 + h .used + x .taken .used) → r ≡ correctionHead s head
     unfolding correctionSide
@@ -234,14 +223,14 @@ module _ (s : List ℕ) (r : ReadAnswer) (q : Bool) (e : q ≡ starts (bytes "<<
     print-corrected k l = rw (← e, h, ← f, k) l
 
     module _ (k : c ≡ false) (d : Bool) (g : d ≡ starts (bytes "<<CXL.") s) where
-      pub print-cancelled : (x : EndedAnswer) → d ≡ true → x ≡ cancelAt s → r ≡ asCancel x → r ≡ printAt s
+      pub print-cancelled : d ≡ true → r ≡ cancelAt s false → r ≡ printAt s
       unfolding printAt pick
-      print-cancelled x l m n = rw (← e, h, ← f, k, ← g, l) (n ∙ ap asCancel m)
+      print-cancelled l n = rw (← e, h, ← f, k, ← g, l) n
 
       module _ (l : d ≡ false) (j : Bool) (i : j ≡ starts (bytes "<<ERR.") s) where
-        pub print-erred : (x : EndedAnswer) → j ≡ true → x ≡ cancelAt s → r ≡ asError x → r ≡ printAt s
+        pub print-erred : j ≡ true → r ≡ cancelAt s true → r ≡ printAt s
         unfolding printAt pick
-        print-erred x m n o = rw (← e, h, ← f, k, ← g, l, ← i, m) (o ∙ ap asError n)
+        print-erred m n = rw (← e, h, ← f, k, ← g, l, ← i, m) n
 
         pub print-traded : j ≡ false → r ≡ tradeAt s → r ≡ printAt s
         unfolding printAt pick

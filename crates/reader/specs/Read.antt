@@ -24,17 +24,16 @@ use Rattle.sideread.specs.declared.Beside.{Beside}
 use Rattle.sideread.specs.declared.Beside.the-variants.{Alone, With}
 use Rattle.sideread.specs.declared.SideRead.{SideRead}
 use Rattle.sideread.specs.declared.SideAnswer.{SideAnswer}
-use Rattle.sideread.specs.declared.SideAnswer.the-variants.{Sided, NoSide}
+use Rattle.sideread.specs.declared.SideAnswer.the-variants.{Sided, Refused as Unsided}
 use Rattle.sideread.specs.Side.{sideAt}
+use Rattle.reader.specs.declared.PrintRead.{PrintRead}
 use Rattle.reader.specs.declared.ReadAnswer.{ReadAnswer}
 use Rattle.reader.specs.declared.ReadAnswer.the-variants.{Announcement, Trade, Cancel, Error, Correction, Refused}
-use Rattle.reader.specs.declared.EndedAnswer.{EndedAnswer}
-use Rattle.reader.specs.declared.EndedAnswer.the-variants.{Ended, NotEnded}
 
 -- ---- a trade: head and side
 
 unfoldable pub tradeSide : NameRead → SideAnswer → ReadAnswer
-tradeSide h NoSide = Refused NoPrint
+tradeSide h (Unsided r) = Refused NoPrint
 tradeSide h (Sided x) = Trade (record { length = h .used + x .taken .used; from = 0; to = h .length; side = x .taken .side })
 
 unfoldable pub tradeHead : List ℕ → NameAnswer → ReadAnswer
@@ -53,27 +52,23 @@ endAt s n x = pick (x .letters .g) n (pick (starts (bytes ">>") (drop n s)) (n +
 
 -- ---- a cancel or an error: an opening of six bytes, head, side and end pair
 
-unfoldable pub endedBy : NameRead → Side → ℕ → EndedAnswer
-endedBy h x n = pick (eqb n 0) NotEnded (Ended (record { length = n; from = 6; to = 6 + h .length; side = x }))
+unfoldable pub amended : Bool → PrintRead → ReadAnswer
+amended true p = Error p
+amended false p = Cancel p
 
-unfoldable pub cancelSide : List ℕ → NameRead → SideAnswer → EndedAnswer
-cancelSide s h NoSide = NotEnded
-cancelSide s h (Sided x) = endedBy h (x .taken .side) (endAt s (6 + h .used + x .taken .used) (x .taken .side))
+unfoldable pub endedBy : Bool → NameRead → Side → ℕ → ReadAnswer
+endedBy error h x n = pick (eqb n 0) (Refused NoPrint) (amended error (record { length = n; from = 6; to = 6 + h .length; side = x }))
 
-unfoldable pub cancelHead : List ℕ → NameAnswer → EndedAnswer
-cancelHead s NoName = NotEnded
-cancelHead s (Named h) = cancelSide s h (sideAt Alone (h .letters) (h .a) (h .b) (drop (6 + h .used) s))
+unfoldable pub cancelSide : List ℕ → Bool → NameRead → SideAnswer → ReadAnswer
+cancelSide s error h (Unsided r) = Refused NoPrint
+cancelSide s error h (Sided x) = endedBy error h (x .taken .side) (endAt s (6 + h .used + x .taken .used) (x .taken .side))
 
-unfoldable pub cancelAt : List ℕ → EndedAnswer
-cancelAt s = cancelHead s (headAt false (drop 6 s))
+unfoldable pub cancelHead : List ℕ → Bool → NameAnswer → ReadAnswer
+cancelHead s error NoName = Refused NoPrint
+cancelHead s error (Named h) = cancelSide s error h (sideAt Alone (h .letters) (h .a) (h .b) (drop (6 + h .used) s))
 
-unfoldable pub asCancel : EndedAnswer → ReadAnswer
-asCancel NotEnded = Refused NoPrint
-asCancel (Ended x) = Cancel x
-
-unfoldable pub asError : EndedAnswer → ReadAnswer
-asError NotEnded = Refused NoPrint
-asError (Ended x) = Error x
+unfoldable pub cancelAt : List ℕ → Bool → ReadAnswer
+cancelAt s error = cancelHead s error (headAt false (drop 6 s))
 
 -- ---- a correction: an opening of seven bytes, the original, WAS., the correcting trade and end pair
 
@@ -82,7 +77,7 @@ correctedBy h x y n = pick (eqb n 0) (Refused NoPrint) (Correction (record { len
 
 -- the correcting trade's side begins behind n bytes, u of them its head's; the name repeats exactly by its letters
 unfoldable pub secondSide : List ℕ → NameRead → Side → ℕ → ℕ → SideAnswer → ReadAnswer
-secondSide s h x n u NoSide = Refused NoPrint
+secondSide s h x n u (Unsided r) = Refused NoPrint
 secondSide s h x n u (Sided y) =
     pick (alike (repeatsName (y .taken .side .letters)) (leb 1 u))
     (correctedBy h x (y .taken .side) (endAt s (n + y .taken .used) (y .taken .side)))
@@ -102,7 +97,7 @@ secondAt s h x n =
     (Refused NoPrint)
 
 unfoldable pub correctionSide : List ℕ → NameRead → SideAnswer → ReadAnswer
-correctionSide s h NoSide = Refused NoPrint
+correctionSide s h (Unsided r) = Refused NoPrint
 correctionSide s h (Sided x) = secondAt s h x (7 + h .used + x .taken .used)
 
 unfoldable pub correctionHead : List ℕ → NameAnswer → ReadAnswer
@@ -122,8 +117,8 @@ unfoldable pub printAt : List ℕ → ReadAnswer
 printAt s =
     pick (starts (bytes "<<<") s) (announcedBy (announcedLength s))
     (pick (starts (bytes "<<CORR.") s) (correctionAt s)
-    (pick (starts (bytes "<<CXL.") s) (asCancel (cancelAt s))
-    (pick (starts (bytes "<<ERR.") s) (asError (cancelAt s))
+    (pick (starts (bytes "<<CXL.") s) (cancelAt s false)
+    (pick (starts (bytes "<<ERR.") s) (cancelAt s true)
     (tradeAt s))))
 
 -- the print at a place of a tape; past the end there is none

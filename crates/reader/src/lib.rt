@@ -19,7 +19,7 @@ ghost use Rattle.rules.specs.Line.{alike};
 ghost use Rattle.heading.specs.Head.{headAt, againAt};
 ghost use Rattle.sideread.specs.Side.{sideAt};
 ghost use Rattle.sideread.specs.declared.SideAnswer.the-variants.{Sided};
-ghost use Rattle.reader.specs.Read.{tradeHead, tradeAt, endAt, endedBy, cancelHead, cancelAt, asCancel, asError, correctedBy, secondSide, secondHead, secondAt, correctionHead, correctionAt, announcedBy, printAt, readAt};
+ghost use Rattle.reader.specs.Read.{tradeHead, tradeAt, endAt, endedBy, cancelHead, cancelAt, amended, correctedBy, secondSide, secondHead, secondAt, correctionHead, correctionAt, announcedBy, printAt, readAt};
 ghost use Rattle.reader.specs.Told.{lengthOf, nameFrom, nameLength, nameAt};
 
 // A trade, cancel or error: the print's length, where in it its name begins and ends, and the side shown (its letters as a
@@ -48,12 +48,6 @@ pub enum ReadAnswer {
     Error(PrintRead),
     Correction(CorrectionRead),
     Refused(Refusal),
-}
-
-// A cancel or an error before it is told which, or none.
-pub enum EndedAnswer {
-    Ended(PrintRead),
-    NotEnded,
 }
 
 // ---- what stands behind n bytes
@@ -134,63 +128,55 @@ fn end_at(s: &[u8], n: usize, x: Side) -> usize
     0
 }
 
-fn ended_by(h: NameRead, x: Side, n: usize) -> EndedAnswer
+fn amended_by(error: bool, p: PrintRead) -> ReadAnswer
+    ensures { λ r. ⌜ r ≡ amended error p ⌝ }
+{
+    if error {
+        return ReadAnswer::Error(p);
+    }
+    ReadAnswer::Cancel(p)
+}
+
+fn ended_by(error: bool, h: NameRead, x: Side, n: usize) -> ReadAnswer
     requires { ⌜ h .length ≤ 21 ⌝ }
-    ensures { λ r. ⌜ r ≡ endedBy h x n ⌝ }
+    ensures { λ r. ⌜ r ≡ endedBy error h x n ⌝ }
 {
     if n == 0 {
-        return EndedAnswer::NotEnded;
+        return ReadAnswer::Refused(Refusal::NoPrint);
     }
-    EndedAnswer::Ended(PrintRead {
+    let p = PrintRead {
         length: n,
         from: 6,
         to: 6 + h.length,
         side: x,
-    })
+    };
+    amended_by(error, p)
 }
 
-fn cancel_head(s: &[u8], head: NameAnswer) -> EndedAnswer
+fn cancel_head(s: &[u8], error: bool, head: NameAnswer) -> ReadAnswer
     requires { ⌜ (6 ≤ length (now s)) × (head ≡ headAt false (drop 6 (now s))) ⌝ }
-    ensures { λ r. ⌜ r ≡ cancelHead (now (s .entry)) head ⌝ }
+    ensures { λ r. ⌜ r ≡ cancelHead (now (s .entry)) error head ⌝ }
 {
     let NameAnswer::Named(h) = head else {
-        return EndedAnswer::NotEnded;
+        return ReadAnswer::Refused(Refusal::NoPrint);
     };
     let letters = h.letters;
     let n = 6 + h.used;
     let SideAnswer::Sided(x) = side_from(s, n, Beside::Alone, letters, h.a, h.b) else {
-        return EndedAnswer::NotEnded;
+        return ReadAnswer::Refused(Refusal::NoPrint);
     };
     let taken = x.taken;
     let side = taken.side;
     let end = end_at(s, n + taken.used, side);
-    ended_by(h, side, end)
+    ended_by(error, h, side, end)
 }
 
 // Its temporary suffix never shows.
-fn cancel_at(s: &[u8]) -> EndedAnswer
+fn cancel_at(s: &[u8], error: bool) -> ReadAnswer
     requires { ⌜ 6 ≤ length (now s) ⌝ }
-    ensures { λ r. ⌜ r ≡ cancelAt (now (s .entry)) ⌝ }
+    ensures { λ r. ⌜ r ≡ cancelAt (now (s .entry)) error ⌝ }
 {
-    cancel_head(s, head_from(s, 6, false))
-}
-
-fn as_cancel(x: EndedAnswer) -> ReadAnswer
-    ensures { λ r. ⌜ r ≡ asCancel x ⌝ }
-{
-    match x {
-        EndedAnswer::Ended(p) => ReadAnswer::Cancel(p),
-        EndedAnswer::NotEnded => ReadAnswer::Refused(Refusal::NoPrint),
-    }
-}
-
-fn as_error(x: EndedAnswer) -> ReadAnswer
-    ensures { λ r. ⌜ r ≡ asError x ⌝ }
-{
-    match x {
-        EndedAnswer::Ended(p) => ReadAnswer::Error(p),
-        EndedAnswer::NotEnded => ReadAnswer::Refused(Refusal::NoPrint),
-    }
+    cancel_head(s, error, head_from(s, 6, false))
 }
 
 // ---- a correction: an opening of seven bytes, the original, WAS., the correcting trade and end pair
@@ -313,10 +299,10 @@ fn print_at(s: &[u8]) -> ReadAnswer
         return correction_at(s);
     }
     if scan::starts_with(s, b"<<CXL.") {
-        return as_cancel(cancel_at(s));
+        return cancel_at(s, false);
     }
     if scan::starts_with(s, b"<<ERR.") {
-        return as_error(cancel_at(s));
+        return cancel_at(s, true);
     }
     trade_at(s)
 }

@@ -18,12 +18,11 @@ use Rattle.heading.specs.declared.AgainAnswer.the-variants.{Again, NotAgain}
 use Rattle.heading.specs.Head.{headAt}
 use Rattle.sideread.specs.declared.SideRead.{SideRead}
 use Rattle.sideread.specs.declared.SideAnswer.{SideAnswer}
-use Rattle.sideread.specs.declared.SideAnswer.the-variants.{Sided, NoSide}
+use Rattle.sideread.specs.declared.SideAnswer.the-variants.{Sided, Refused as Unsided}
 use Rattle.reader.specs.declared.ReadAnswer.{ReadAnswer}
 use Rattle.reader.specs.declared.ReadAnswer.the-variants.{Announcement, Trade, Cancel, Error, Correction, Refused}
-use Rattle.reader.specs.declared.EndedAnswer.{EndedAnswer}
-use Rattle.reader.specs.declared.EndedAnswer.the-variants.{Ended, NotEnded}
-use Rattle.reader.specs.Read.{tradeSide, tradeHead, tradeAt, cancelAt, asCancel, asError, correctedBy, secondSide, secondHead, secondAt, correctionSide, correctionHead, correctionAt, announcedBy, printAt, readAt}
+use Rattle.reader.specs.declared.PrintRead.{PrintRead}
+use Rattle.reader.specs.Read.{tradeSide, tradeHead, tradeAt, amended, endedBy, cancelSide, cancelHead, cancelAt, correctedBy, secondSide, secondHead, secondAt, correctionSide, correctionHead, correctionAt, announcedBy, printAt, readAt}
 
 unfoldable By14 : ReadAnswer → Type 0
 By14 (Announcement n) = Unit {0}
@@ -44,7 +43,7 @@ none = refl
 
 trade-side : (h : NameRead) (x : SideAnswer) → By14 (tradeSide h x)
 unfolding tradeSide By14
-trade-side h NoSide = refl
+trade-side h (Unsided r) = refl
 trade-side h (Sided x) = tt
 
 trade-head : (s : List ℕ) (head : NameAnswer) → By14 (tradeHead s head)
@@ -52,15 +51,20 @@ unfolding tradeHead
 trade-head s NoName = none
 trade-head s (Named h) = trade-side h _
 
-as-cancel : (x : EndedAnswer) → By14 (asCancel x)
-unfolding asCancel By14
-as-cancel NotEnded = refl
-as-cancel (Ended x) = tt
+amendment : (error : Bool) (x : PrintRead) → By14 (amended error x)
+unfolding amended By14
+amendment true x = tt
+amendment false x = tt
 
-as-error : (x : EndedAnswer) → By14 (asError x)
-unfolding asError By14
-as-error NotEnded = refl
-as-error (Ended x) = tt
+cancel-side : (s : List ℕ) (error : Bool) (h : NameRead) (x : SideAnswer) → By14 (cancelSide s error h x)
+unfolding cancelSide endedBy
+cancel-side s error h (Unsided r) = none
+cancel-side s error h (Sided x) = chosen _ (Refused NoPrint) _ none (amendment error _)
+
+cancel-head : (s : List ℕ) (error : Bool) (head : NameAnswer) → By14 (cancelHead s error head)
+unfolding cancelHead
+cancel-head s error NoName = none
+cancel-head s error (Named h) = cancel-side s error h _
 
 corrected : (h : NameRead) (x y : Side) (n : ℕ) → By14 (correctedBy h x y n)
 unfolding correctedBy By14
@@ -68,7 +72,7 @@ corrected h x y n = chosen (eqb n 0) (Refused NoPrint) (Correction (record { len
 
 second-side : (s : List ℕ) (h : NameRead) (x : Side) (n u : ℕ) (side : SideAnswer) → By14 (secondSide s h x n u side)
 unfolding secondSide
-second-side s h x n u NoSide = none
+second-side s h x n u (Unsided r) = none
 second-side s h x n u (Sided y) = chosen _ _ (Refused NoPrint) (corrected h x (y .taken .side) _) none
 
 second-head : (s : List ℕ) (h : NameRead) (x : SideRead) (n : ℕ) (again : AgainAnswer) → By14 (secondHead s h x n again)
@@ -82,7 +86,7 @@ second-at s h x n = chosen _ _ (Refused NoPrint) (second-head s h x (n + 4) _) n
 
 correction-side : (s : List ℕ) (h : NameRead) (x : SideAnswer) → By14 (correctionSide s h x)
 unfolding correctionSide
-correction-side s h NoSide = none
+correction-side s h (Unsided r) = none
 correction-side s h (Sided x) = second-at s h x (7 + h .used + x .taken .used)
 
 correction-head : (s : List ℕ) (head : NameAnswer) → By14 (correctionHead s head)
@@ -95,12 +99,12 @@ unfolding announcedBy By14
 announced-by n = chosen (eqb n 0) (Refused NoPrint) (Announcement n) refl tt
 
 print-by : (s : List ℕ) → By14 (printAt s)
-unfolding printAt correctionAt tradeAt
+unfolding printAt correctionAt cancelAt tradeAt
 print-by s =
     chosen _ _ _ (announced-by (announcedLength s))
     (chosen _ _ _ (correction-head s (headAt false (drop 7 s)))
-    (chosen _ _ _ (as-cancel (cancelAt s))
-    (chosen _ _ _ (as-error (cancelAt s))
+    (chosen _ _ _ (cancel-head s false (headAt false (drop 6 s)))
+    (chosen _ _ _ (cancel-head s true (headAt false (drop 6 s)))
     (trade-head s (headAt true s)))))
 
 pub refused-by : (tape : List ℕ) (place : ℕ) (r : Refusal) → readAt tape place ≡ Refused r → r ≡ NoPrint

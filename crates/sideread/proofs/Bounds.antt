@@ -28,7 +28,8 @@ use Rattle.tails.proofs.Steps.{room, days-room, last-room}
 use Rattle.sideread.specs.declared.Beside.{Beside}
 use Rattle.sideread.specs.declared.SideRead.{SideRead}
 use Rattle.sideread.specs.declared.SideAnswer.{SideAnswer}
-use Rattle.sideread.specs.declared.SideAnswer.the-variants.{Sided, NoSide}
+use Rattle.rules.specs.declared.Refusal.the-variants.{NoPrint}
+use Rattle.sideread.specs.declared.SideAnswer.the-variants.{Sided, Refused}
 use Rattle.sideread.specs.Side.{beside, sidedBy, sideWith, saidSide, orElse, sideAt}
 use Rattle.sideread.proofs.Sides.{priced-room, said-room}
 
@@ -88,7 +89,7 @@ never z = omega arith
 
 abbrev used-of : SideAnswer → ℕ
 used-of (Sided x) = x .taken .used
-used-of NoSide = 0
+used-of (Refused r) = 0
 
 module _ (part : List ℕ) (letters : Letters) (x : SideRead) where
   used-is : (q : Taken) (v : Volume) → q .used ≤ length part → Sided (record { volume = v; taken = q }) ≡ Sided x → x .taken .used ≤ length part
@@ -104,7 +105,7 @@ module _ (part : List ℕ) (letters : Letters) (x : SideRead) where
     unfolding sideWith pick
     with-within v used h e = go (a && explained 65 (beside first v) v) (b && explained 66 (beside first v) v) e
       where
-        go : (c d : Bool) → pick (c || d) (sidedBy part letters v used c d (priceAt (drop used part))) NoSide ≡ Sided x → x .taken .used ≤ length part
+        go : (c d : Bool) → pick (c || d) (sidedBy part letters v used c d (priceAt (drop used part))) (Refused NoPrint) ≡ Sided x → x .taken .used ≤ length part
         go true d k = sided-within v used true d (priceAt (drop used part)) h refl k
         go false true k = sided-within v used false true (priceAt (drop used part)) h refl k
         go false false k = absurd (never (cc))
@@ -117,7 +118,7 @@ module _ (part : List ℕ) (letters : Letters) (x : SideRead) where
     or-within : (y : SideAnswer) → (y ≡ Sided x → x .taken .used ≤ length part) → orElse y (sideWith first letters a b part Unsaid 0) ≡ Sided x → x .taken .used ≤ length part
     unfolding orElse
     or-within (Sided z) h k = h k
-    or-within NoSide h k = with-within Unsaid 0 (omega arith) k
+    or-within (Refused r) h k = with-within Unsaid 0 (omega arith) k
 
     -- r is what a caller was answered
     pub side-within : (r : SideAnswer) → r ≡ sideAt first letters a b part → r ≡ Sided x → x .taken .used ≤ length part

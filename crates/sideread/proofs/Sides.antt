@@ -26,7 +26,9 @@ use Rattle.sideread.specs.declared.Beside.{Beside}
 use Rattle.sideread.specs.declared.Beside.the-variants.{Alone, With}
 use Rattle.sideread.specs.declared.SideRead.{SideRead}
 use Rattle.sideread.specs.declared.SideAnswer.{SideAnswer}
-use Rattle.sideread.specs.declared.SideAnswer.the-variants.{Sided, NoSide}
+use Rattle.rules.specs.declared.Refusal.{Refusal}
+use Rattle.rules.specs.declared.Refusal.the-variants.{NoPrint}
+use Rattle.sideread.specs.declared.SideAnswer.the-variants.{Sided, Refused}
 use Rattle.sideread.specs.Side.{headCount, beside, sidedBy, sideWith, saidSide, orElse, sideAt}
 use Rattle.tails.proofs.Steps.{price-part}
 
@@ -49,7 +51,7 @@ counted x o s l m e f g h = rw (e, f, g, h)
 -- ---- the price behind the volume
 
 module _ (part : List ℕ) (letters : Letters) (v : Volume) (used : ℕ) (a b : Bool) (price : PriceAnswer) where
-  pub unpriced : price ≡ NoPrice → NoSide ≡ sidedBy part letters v used a b price
+  pub unpriced : price ≡ NoPrice → Refused NoPrint ≡ sidedBy part letters v used a b price
   unfolding sidedBy
   unpriced e = rw e
 
@@ -67,11 +69,11 @@ module _ (part : List ℕ) (letters : Letters) (v : Volume) (used : ℕ) (a b : 
 -- ---- the networks
 
 module _ (first : Beside) (letters : Letters) (a b : Bool) (part : List ℕ) (v x : Volume) (used : ℕ) (c d n : Bool) (e : x ≡ beside first v) (f : c ≡ (a && explained 65 x v)) (g : d ≡ (b && explained 66 x v)) (h : n ≡ (c || d)) where
-  with-is : sideWith first letters a b part v used ≡ pick n (sidedBy part letters v used c d (priceAt (drop used part))) NoSide
+  with-is : sideWith first letters a b part v used ≡ pick n (sidedBy part letters v used c d (priceAt (drop used part))) (Refused NoPrint)
   unfolding sideWith
   with-is = rw (← e, ← f, ← g, ← h)
 
-  pub unexplained : not n ≡ true → NoSide ≡ sideWith first letters a b part v used
+  pub unexplained : not n ≡ true → Refused NoPrint ≡ sideWith first letters a b part v used
   unfolding pick
   unexplained q = rw (with-is, not-true n q)
 
@@ -82,7 +84,7 @@ module _ (first : Beside) (letters : Letters) (a b : Bool) (part : List ℕ) (v 
 -- ---- with a volume shown, else without
 
 module _ (first : Beside) (letters : Letters) (a b : Bool) (part : List ℕ) (volume : VolumeAnswer) where
-  pub unsaid : volume ≡ NoVolume → NoSide ≡ saidSide first letters a b part volume
+  pub unsaid : volume ≡ NoVolume → Refused NoPrint ≡ saidSide first letters a b part volume
   unfolding saidSide
   unsaid e = rw e
 
@@ -102,6 +104,6 @@ module _ (first : Beside) (letters : Letters) (a b : Bool) (part : List ℕ) (vo
     unfolding orElse
     side-said x h = rw (side-is, h)
 
-    pub side-unsaid : (r : SideAnswer) → said ≡ NoSide → r ≡ sideWith first letters a b part Unsaid 0 → r ≡ sideAt first letters a b part
+    pub side-unsaid : (q : Refusal) (r : SideAnswer) → said ≡ Refused q → r ≡ sideWith first letters a b part Unsaid 0 → r ≡ sideAt first letters a b part
     unfolding orElse
-    side-unsaid r h k = rw (side-is, h) k
+    side-unsaid q r h k = rw (side-is, h) k

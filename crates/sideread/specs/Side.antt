@@ -6,6 +6,7 @@ use lib.ListN.{drop}
 use Rattle.text.specs.Pick.{pick}
 use Rattle.rules.specs.declared.Letters.{Letters}
 use Rattle.rules.specs.declared.Price.{Price}
+use Rattle.rules.specs.declared.Refusal.the-variants.{NoPrint}
 use Rattle.rules.specs.declared.Side.{Side}
 use Rattle.scan.specs.declared.PriceAnswer.{PriceAnswer}
 use Rattle.scan.specs.declared.PriceAnswer.the-variants.{Priced, NoPrice}
@@ -20,7 +21,7 @@ use Rattle.tails.specs.Tail.{tailAt}
 use Rattle.sideread.specs.declared.Beside.{Beside}
 use Rattle.sideread.specs.declared.Beside.the-variants.{Alone, With}
 use Rattle.sideread.specs.declared.SideAnswer.{SideAnswer}
-use Rattle.sideread.specs.declared.SideAnswer.the-variants.{Sided, NoSide}
+use Rattle.sideread.specs.declared.SideAnswer.the-variants.{Sided, Refused}
 
 abbrev pub one : Bool → ℕ
 one b = pick b 1 0
@@ -36,7 +37,7 @@ beside (With x) v = x
 
 -- with a price read, the conditions behind it
 unfoldable pub sidedBy : List ℕ → Letters → Volume → ℕ → Bool → Bool → PriceAnswer → SideAnswer
-sidedBy part letters v used a b NoPrice = NoSide
+sidedBy part letters v used a b NoPrice = Refused NoPrint
 sidedBy part letters v used a b (Priced p) =
     Sided (record {
       volume = v;
@@ -54,16 +55,16 @@ unfoldable pub sideWith : Beside → Letters → Bool → Bool → List ℕ → 
 sideWith first letters a b part v used =
     pick ((a && explained 65 (beside first v) v) || (b && explained 66 (beside first v) v))
     (sidedBy part letters v used (a && explained 65 (beside first v) v) (b && explained 66 (beside first v) v) (priceAt (drop used part)))
-    NoSide
+    (Refused NoPrint)
 
 -- with a volume shown
 unfoldable pub saidSide : Beside → Letters → Bool → Bool → List ℕ → VolumeAnswer → SideAnswer
-saidSide first letters a b part NoVolume = NoSide
+saidSide first letters a b part NoVolume = Refused NoPrint
 saidSide first letters a b part (Said v) = sideWith first letters a b part (v .volume) (v .used)
 
 unfoldable pub orElse : SideAnswer → SideAnswer → SideAnswer
 orElse (Sided x) y = Sided x
-orElse NoSide y = y
+orElse (Refused r) y = y
 
 -- with a volume shown, else without
 unfoldable pub sideAt : Beside → Letters → Bool → Bool → List ℕ → SideAnswer

@@ -2,6 +2,7 @@
 // conditions, with the networks on which one line could print it. One reader for T, C, X and E.
 use rules::Letters;
 use rules::Price;
+use rules::Refusal;
 use rules::Side;
 use scan::PriceAnswer;
 use tails::Taken;
@@ -30,7 +31,7 @@ pub struct SideRead {
 
 pub enum SideAnswer {
     Sided(SideRead),
-    NoSide,
+    Refused(Refusal),
 }
 
 // ---- parts
@@ -96,7 +97,7 @@ fn sided_by(
     ensures { λ r. ⌜ r ≡ sidedBy (now (part .entry)) letters v used a b price ⌝ }
 {
     let PriceAnswer::Priced(p) = price else {
-        return SideAnswer::NoSide;
+        return SideAnswer::Refused(Refusal::NoPrint);
     };
     let shown = p.price;
     let side = Side {
@@ -137,7 +138,7 @@ fn side_with(
     let on_a = allowed(a, 65, x, v);
     let on_b = allowed(b, 66, x, v);
     if !some_network(on_a, on_b) {
-        return SideAnswer::NoSide;
+        return SideAnswer::Refused(Refusal::NoPrint);
     }
     let price = scan::price_at(&part[used..]);
     sided_by(part, letters, v, used, on_a, on_b, price)
@@ -156,19 +157,19 @@ fn said_side(
     ensures { λ r. ⌜ r ≡ saidSide first letters a b (now (part .entry)) volume ⌝ }
 {
     let VolumeAnswer::Said(v) = volume else {
-        return SideAnswer::NoSide;
+        return SideAnswer::Refused(Refusal::NoPrint);
     };
     let shown = v.volume;
     side_with(first, letters, a, b, part, shown, v.used)
 }
 
-// With a volume shown, else without.
+// With a volume shown; what is refused so, for whatever part, is tried once more without.
 pub fn side_at(first: Beside, letters: Letters, a: bool, b: bool, part: &[u8]) -> SideAnswer
     ensures { λ r. ⌜ r ≡ sideAt first letters a b (now (part .entry)) ⌝ }
 {
     let volume = volumescan::volume_at(part);
     match said_side(first, letters, a, b, part, volume) {
         SideAnswer::Sided(x) => SideAnswer::Sided(x),
-        SideAnswer::NoSide => side_with(first, letters, a, b, part, Volume::Unsaid, 0),
+        SideAnswer::Refused(_) => side_with(first, letters, a, b, part, Volume::Unsaid, 0),
     }
 }

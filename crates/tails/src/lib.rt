@@ -232,15 +232,13 @@ fn closed(s: &[u8], i: usize, x: PriceAnswer) -> PriceAnswer
     requires { ⌜ (i ≤ length (now s)) × (x ≡ priceAt (drop i (now s))) ⌝ }
     ensures { λ r. ⌜ r ≡ closedBy (drop i (now (s .entry))) x ⌝ }
 {
-    match x {
-        PriceAnswer::Priced(p) => {
-            if stands(s, i + p.used, b">>") {
-                return PriceAnswer::Priced(p);
-            }
-            PriceAnswer::NoPrice
-        }
-        PriceAnswer::NoPrice => PriceAnswer::NoPrice,
+    let PriceAnswer::Priced(p) = x else {
+        return PriceAnswer::NoPrice;
+    };
+    if stands(s, i + p.used, b">>") {
+        return PriceAnswer::Priced(p);
     }
+    PriceAnswer::NoPrice
 }
 
 // The previous last between its texts.
@@ -268,10 +266,10 @@ fn previous_by(s: &[u8], st: Taken, x: PriceAnswer) -> Taken
     requires { ⌜ (st .used ≤ length (now s)) × (st .count < 4) × (x ≡ previousIn (drop (st .used) (now s))) ⌝ }
     ensures { λ r. ⌜ (r ≡ previousBy st x) × (r .used ≤ length (now (s .entry))) ⌝ }
 {
-    match x {
-        PriceAnswer::Priced(p) => with_previous(s, st, p),
-        PriceAnswer::NoPrice => st,
-    }
+    let PriceAnswer::Priced(p) = x else {
+        return st;
+    };
+    with_previous(s, st, p)
 }
 
 // `>>PREV.LAST`, a price and `>>`: network B only.

@@ -27,7 +27,7 @@ use Rattle.sideread.specs.declared.Beside.{Beside}
 use Rattle.sideread.specs.declared.Beside.the-variants.{Alone, With}
 use Rattle.sideread.specs.declared.SideRead.{SideRead}
 use Rattle.sideread.specs.declared.SideAnswer.{SideAnswer}
-use Rattle.sideread.specs.declared.SideAnswer.the-variants.{Sided, NoSide}
+use Rattle.sideread.specs.declared.SideAnswer.the-variants.{Sided, Refused as Unsided}
 use Rattle.sideread.specs.Side.{headCount, sidedBy, sideWith, saidSide, orElse, sideAt}
 use Rattle.heading.specs.declared.NameRead.{NameRead}
 use Rattle.heading.specs.declared.NameAnswer.{NameAnswer}
@@ -38,18 +38,16 @@ use Rattle.heading.specs.Head.{headAt}
 use Rattle.announced.specs.Announced.{announcedLength}
 use Rattle.reader.specs.declared.ReadAnswer.{ReadAnswer}
 use Rattle.reader.specs.declared.ReadAnswer.the-variants.{Announcement, Trade, Cancel, Error, Correction, Refused}
-use Rattle.reader.specs.declared.EndedAnswer.{EndedAnswer}
-use Rattle.reader.specs.declared.EndedAnswer.the-variants.{Ended, NotEnded}
 use Rattle.reader.specs.declared.PrintRead.{PrintRead}
 use Rattle.reader.specs.declared.CorrectionRead.{CorrectionRead}
-use Rattle.reader.specs.Read.{tradeSide, tradeHead, tradeAt, endedBy, cancelSide, cancelHead, cancelAt, asCancel, asError, correctedBy, secondSide, secondHead, secondAt, correctionSide, correctionHead, correctionAt, announcedBy, printAt, readAt}
+use Rattle.reader.specs.Read.{tradeSide, tradeHead, tradeAt, endedBy, cancelSide, cancelHead, cancelAt, amended, correctedBy, secondSide, secondHead, secondAt, correctionSide, correctionHead, correctionAt, announcedBy, printAt, readAt}
 use Rattle.factside.specs.Sound.{SoundSide}
 use Rattle.told.proofs.Tails.{tail-days, tail-previous}
 
 -- ---- a side
 
 unfoldable SoundRead : SideAnswer → Type 0
-SoundRead NoSide = Unit {0}
+SoundRead (Unsided r) = Unit {0}
 SoundRead (Sided x) = SoundSide (x .taken .side)
 
 read-chosen : (b : Bool) (x y : SideAnswer) → SoundRead x → SoundRead y → SoundRead (pick b x y)
@@ -72,7 +70,7 @@ sided-sound part letters v used a b (Priced p) e h =
 module _ (first : Beside) (letters : Letters) (a b : Bool) (part : List ℕ) where
   with-sound : (v : Volume) (used : ℕ) → sharesIn v < 10 ^ 9 → SoundRead (sideWith first letters a b part v used)
   unfolding sideWith SoundRead
-  with-sound v used h = read-chosen _ _ NoSide (sided-sound part letters v used _ _ (priceAt (drop used part)) refl h) tt
+  with-sound v used h = read-chosen _ _ (Unsided NoPrint) (sided-sound part letters v used _ _ (priceAt (drop used part)) refl h) tt
 
   said-sound : (y : VolumeAnswer) → volumeAt part ≡ y → SoundRead (saidSide first letters a b part y)
   unfolding saidSide SoundRead
@@ -82,7 +80,7 @@ module _ (first : Beside) (letters : Letters) (a b : Bool) (part : List ℕ) whe
   else-sound : (x y : SideAnswer) → SoundRead x → SoundRead y → SoundRead (orElse x y)
   unfolding orElse
   else-sound (Sided x) y h k = h
-  else-sound NoSide y h k = k
+  else-sound (Unsided r) y h k = k
 
   side-sound : SoundRead (sideAt first letters a b part)
   unfolding sideAt sharesIn
@@ -109,7 +107,7 @@ refused = tt
 
 trade-side : (h : NameRead) (x : SideAnswer) → SoundRead x → SoundAnswer (tradeSide h x)
 unfolding tradeSide SoundAnswer SoundRead
-trade-side h NoSide k = tt
+trade-side h (Unsided r) k = tt
 trade-side h (Sided x) k = k
 
 trade-sound : (s : List ℕ) (head : NameAnswer) → SoundAnswer (tradeHead s head)
@@ -117,37 +115,24 @@ unfolding tradeHead
 trade-sound s NoName = refused
 trade-sound s (Named h) = trade-side h _ (side-sound Alone (h .letters) (h .a) (h .b) (drop (h .used) s))
 
-unfoldable SoundEnded : EndedAnswer → Type 0
-SoundEnded NotEnded = Unit {0}
-SoundEnded (Ended x) = SoundSide (x .side)
+amended-sound : (error : Bool) (x : PrintRead) → SoundSide (x .side) → SoundAnswer (amended error x)
+unfolding amended SoundAnswer
+amended-sound true x k = k
+amended-sound false x k = k
 
-ended-sound : (h : NameRead) (x : Side) (n : ℕ) → SoundSide x → SoundEnded (endedBy h x n)
-unfolding endedBy pick SoundEnded
-ended-sound h x n k = go (eqb n 0)
-  where
-    go : (b : Bool) → SoundEnded (pick b NotEnded (Ended (record { length = n; from = 6; to = 6 + h .length; side = x })))
-    go true = tt
-    go false = k
+ended-sound : (error : Bool) (h : NameRead) (x : Side) (n : ℕ) → SoundSide x → SoundAnswer (endedBy error h x n)
+unfolding endedBy
+ended-sound error h x n k = chosen (eqb n 0) (Refused NoPrint) (amended error (record { length = n; from = 6; to = 6 + h .length; side = x })) refused (amended-sound error _ k)
 
-cancel-side : (s : List ℕ) (h : NameRead) (x : SideAnswer) → SoundRead x → SoundEnded (cancelSide s h x)
-unfolding cancelSide SoundRead SoundEnded
-cancel-side s h NoSide k = tt
-cancel-side s h (Sided x) k = ended-sound h (x .taken .side) _ k
+cancel-side : (s : List ℕ) (error : Bool) (h : NameRead) (x : SideAnswer) → SoundRead x → SoundAnswer (cancelSide s error h x)
+unfolding cancelSide SoundRead
+cancel-side s error h (Unsided r) k = refused
+cancel-side s error h (Sided x) k = ended-sound error h (x .taken .side) _ k
 
-cancel-head : (s : List ℕ) (head : NameAnswer) → SoundEnded (cancelHead s head)
-unfolding cancelHead SoundEnded
-cancel-head s NoName = tt
-cancel-head s (Named h) = cancel-side s h _ (side-sound Alone (h .letters) (h .a) (h .b) (drop (6 + h .used) s))
-
-as-cancel : (x : EndedAnswer) → SoundEnded x → SoundAnswer (asCancel x)
-unfolding asCancel SoundEnded SoundAnswer
-as-cancel NotEnded k = tt
-as-cancel (Ended x) k = k
-
-as-error : (x : EndedAnswer) → SoundEnded x → SoundAnswer (asError x)
-unfolding asError SoundEnded SoundAnswer
-as-error NotEnded k = tt
-as-error (Ended x) k = k
+cancel-head : (s : List ℕ) (error : Bool) (head : NameAnswer) → SoundAnswer (cancelHead s error head)
+unfolding cancelHead
+cancel-head s error NoName = refused
+cancel-head s error (Named h) = cancel-side s error h _ (side-sound Alone (h .letters) (h .a) (h .b) (drop (6 + h .used) s))
 
 corrected-sound : (h : NameRead) (x y : Side) (n : ℕ) → SoundSide x → SoundSide y → SoundAnswer (correctedBy h x y n)
 unfolding correctedBy SoundAnswer
@@ -155,7 +140,7 @@ corrected-sound h x y n k l = chosen (eqb n 0) (Refused NoPrint) (Correction (re
 
 second-side : (s : List ℕ) (h : NameRead) (x : Side) (n u : ℕ) (side : SideAnswer) → SoundSide x → SoundRead side → SoundAnswer (secondSide s h x n u side)
 unfolding secondSide SoundRead
-second-side s h x n u NoSide k l = refused
+second-side s h x n u (Unsided r) k l = refused
 second-side s h x n u (Sided y) k l = chosen _ _ (Refused NoPrint) (corrected-sound h x (y .taken .side) _ k l) refused
 
 second-head : (s : List ℕ) (h : NameRead) (x : SideRead) (n : ℕ) (again : AgainAnswer) → SoundSide (x .taken .side) → SoundAnswer (secondHead s h x n again)
@@ -169,7 +154,7 @@ second-at s h x n k = chosen _ _ (Refused NoPrint) (second-head s h x (n + 4) _ 
 
 correction-side : (s : List ℕ) (h : NameRead) (x : SideAnswer) → SoundRead x → SoundAnswer (correctionSide s h x)
 unfolding correctionSide SoundRead
-correction-side s h NoSide k = refused
+correction-side s h (Unsided r) k = refused
 correction-side s h (Sided x) k = second-at s h x (7 + h .used + x .taken .used) k
 
 correction-head : (s : List ℕ) (head : NameAnswer) → SoundAnswer (correctionHead s head)
@@ -186,8 +171,8 @@ unfolding printAt correctionAt cancelAt tradeAt
 answer-sound s =
     chosen _ _ _ (announced-sound (announcedLength s))
     (chosen _ _ _ (correction-head s (headAt false (drop 7 s)))
-    (chosen _ _ _ (as-cancel _ (cancel-head s (headAt false (drop 6 s))))
-    (chosen _ _ _ (as-error _ (cancel-head s (headAt false (drop 6 s))))
+    (chosen _ _ _ (cancel-head s false (headAt false (drop 6 s)))
+    (chosen _ _ _ (cancel-head s true (headAt false (drop 6 s)))
     (trade-sound s (headAt true s)))))
 
 -- ---- what a caller was answered

@@ -6,11 +6,14 @@ use Rattle.reader.proofs.ended_by.Tie as tie
 returns : tie.Need-returns
 returns c = search ended-not
 
-add-t5 : tie.Need-add-t5
-add-t5 c = search needs
+add-t8 : tie.Need-add-t8
+add-t8 c = search needs
+
+amended-by-requires : tie.Need-amended-by-requires
+amended-by-requires c κs = search needs
 
 returns-2 : tie.Need-returns-2
 returns-2 c = search ended-is
 
 pub ended-by-spec : {M : Type 1} → statement M
-ended-by-spec = tie.close (tie.spec returns add-t5 returns-2)
+ended-by-spec = tie.close (tie.spec returns add-t8 amended-by-requires returns-2)

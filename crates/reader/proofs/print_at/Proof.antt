@@ -40,9 +40,6 @@ starts-with-requires-3 c κs = search needs
 cancel-at-requires : tie.Need-cancel-at-requires
 cancel-at-requires c κs = search cancel-room
 
-as-cancel-requires : tie.Need-as-cancel-requires
-as-cancel-requires c κs = search needs
-
 returns-3 : tie.Need-returns-3
 returns-3 c = search print-cancelled
 
@@ -54,9 +51,6 @@ starts-with-requires-4 c κs = search needs
 
 cancel-at-requires-2 : tie.Need-cancel-at-requires-2
 cancel-at-requires-2 c κs = search error-room
-
-as-error-requires : tie.Need-as-error-requires
-as-error-requires c κs = search needs
 
 returns-4 : tie.Need-returns-4
 returns-4 c = search print-erred
@@ -83,12 +77,10 @@ print-at-spec =
     slice-aggregate-starts-with-3
     starts-with-requires-3
     cancel-at-requires
-    as-cancel-requires
     returns-3
     slice-aggregate-starts-with-4
     starts-with-requires-4
     cancel-at-requires-2
-    as-error-requires
     returns-4
     trade-at-requires
     returns-5)

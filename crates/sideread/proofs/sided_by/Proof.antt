@@ -15,8 +15,8 @@ returns c = search unpriced
 shares-in-requires : tie.Need-shares-in-requires
 shares-in-requires c κs = search needs
 
-add-t15 : tie.Need-add-t15
-add-t15 c = record { fits = search priced-fits }
+add-t16 : tie.Need-add-t16
+add-t16 c = record { fits = search priced-fits }
 
 head-count-requires : tie.Need-head-count-requires
 head-count-requires c κs = search needs
@@ -35,7 +35,7 @@ sided-by-spec =
     enum-told
     returns
     shares-in-requires
-    add-t15
+    add-t16
     head-count-requires
     tail-at-requires
     returns-2)

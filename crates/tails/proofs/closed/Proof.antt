@@ -6,6 +6,12 @@ use Rattle.tails.proofs.closed.Tie as tie
 enum-known-x : tie.Need-enum-known-x
 enum-known-x c = search needs
 
+enum-told : tie.Need-enum-told
+enum-told c = search needs
+
+returns : tie.Need-returns
+returns c = search closed-none
+
 add-stands : tie.Need-add-stands
 add-stands c = record { fits = search closed-fits }
 
@@ -15,27 +21,21 @@ slice-aggregate-stands c = search needs
 stands-requires : tie.Need-stands-requires
 stands-requires c κs = search closed-room
 
-returns : tie.Need-returns
-returns c = search closed-yes
-
-enum-told : tie.Need-enum-told
-enum-told c = search needs
-
 returns-2 : tie.Need-returns-2
-returns-2 c = search closed-no
+returns-2 c = search closed-yes
 
 returns-3 : tie.Need-returns-3
-returns-3 c = search closed-none
+returns-3 c = search closed-no
 
 pub closed-spec : {M : Type 1} → statement M
 closed-spec =
     tie.close
     (tie.spec
     enum-known-x
+    enum-told
+    returns
     add-stands
     slice-aggregate-stands
     stands-requires
-    returns
-    enum-told
     returns-2
     returns-3)
