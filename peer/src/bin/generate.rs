@@ -1,6 +1,9 @@
-//! generate LINES SECURITIES MODE SEED: a day file on standard output, LINES lines of 100 columns, a line feed after each.
-//! One D, the S lines, an M line for D, R and P; then mostly trades over all securities, with prices that move by small
-//! steps, and some corrections, cancels, errors, levels and refused lines. MODE is N, D, R, P, or A for changes among all.
+//! generate LINES SECURITIES MODE SEED [KIND]: a day file on standard output, LINES lines of 100 columns, a line feed after
+//! each. One D, the S lines, an M line for D, R and P; then, by KIND:
+//! mixed (as without KIND): mostly trades over all securities, with prices that move by small steps, and some corrections,
+//! cancels, errors, levels and refused lines. MODE is N, D, R, P, or A for changes among all.
+//! plain: such trades only, none with letters, none refused. MODE is N, D, R or P.
+//! lettered: the very lines of plain, but that each trade carries one letter; none refused.
 //! The same arguments give the same file.
 
 use std::io::{self, BufWriter, Write};
@@ -45,6 +48,24 @@ struct Security {
 }
 
 const MARKETS: [u8; 10] = *b"ABWMCDTNPX";
+
+/// What comes behind the opening lines.
+#[derive(Clone, Copy)]
+enum Kind {
+    Mixed,
+    Plain,
+    Lettered,
+}
+
+/// The arguments.
+#[derive(Clone, Copy)]
+struct Asked {
+    lines: u64,
+    count: u64,
+    mode: u8,
+    seed: u64,
+    kind: Kind,
+}
 
 /// The root of a security: two to four letters, distinct for distinct numbers, none of them reserved.
 fn root(number: u64) -> Vec<u8> {
@@ -101,15 +122,16 @@ fn volume(dice: &mut Dice, unit: u64) -> u64 {
     }
 }
 
-/// Volume to previous last, from a column on; `oddity` is a letter set that is refused 10 or 11.
-fn side(dice: &mut Dice, line: &mut Columns, from: usize, security: &Security, price: u64, oddity: Option<&[u8]>) {
+/// Volume to previous last, from a column on. `given` are letters that stand without days and previous last; else the dice
+/// choose, most often none.
+fn side(dice: &mut Dice, line: &mut Columns, from: usize, security: &Security, price: u64, given: Option<&[u8]>) {
     line.number(from + 8, volume(dice, security.unit));
     let shorter = price.is_multiple_of(10) && security.decimals > 0 && dice.below(2) == 0;
     let (n, d) = if shorter { (price / 10, security.decimals - 1) } else { (price, security.decimals) };
     line.number(from + 22, n);
     line.number(from + 23, u64::from(d));
     let rule: &[u8] = if security.network == b'A' { b"J" } else { b"G" };
-    let letters = match (oddity, dice.below(200)) {
+    let letters = match (given, dice.below(200)) {
         (Some(letters), _) => letters,
         (None, 0) => b"R",
         (None, 1) => rule,
@@ -117,10 +139,10 @@ fn side(dice: &mut Dice, line: &mut Columns, from: usize, security: &Security, p
         _ => b"",
     };
     line.text(from + 24, letters);
-    if letters.contains(&b'R') && oddity.is_none() {
+    if letters.contains(&b'R') && given.is_none() {
         line.number(from + 30, 1 + dice.below(60));
     }
-    if letters.contains(&b'G') && oddity.is_none() {
+    if letters.contains(&b'G') && given.is_none() {
         line.number(from + 44, price);
         line.number(from + 45, u64::from(security.decimals));
     }
@@ -144,13 +166,19 @@ fn step(dice: &mut Dice, security: &mut Security) {
     };
 }
 
-fn trade(dice: &mut Dice, kind: u8, number: u64, security: &Security, oddity: Option<&[u8]>) -> Columns {
+fn trade(dice: &mut Dice, kind: u8, number: u64, security: &Security, given: Option<&[u8]>) -> Columns {
     let mut line = Columns::new(kind);
     line.number(5, number);
     let market = if dice.below(3) > 0 { security.primary } else { dice.pick(&MARKETS) };
     line.text(6, &[market]);
-    side(dice, &mut line, 7, security, security.price, oddity);
+    side(dice, &mut line, 7, security, security.price, given);
     line
+}
+
+/// A T line at a price that has moved.
+fn next_trade(dice: &mut Dice, number: u64, security: &mut Security, given: Option<&[u8]>) -> Columns {
+    step(dice, security);
+    trade(dice, b'T', number, security, given)
 }
 
 fn level(dice: &mut Dice, kind: u8) -> Columns {
@@ -186,8 +214,45 @@ fn refused(dice: &mut Dice, number: u64, securities: &[Security]) -> Columns {
     line
 }
 
-fn run(lines: u64, count: u64, mode: u8, seed: u64, output: &mut impl Write) -> io::Result<()> {
+/// A line of a mixed day.
+fn mixed(dice: &mut Dice, number: u64, securities: &mut [Security], mode: u8) -> Columns {
+    let security = &mut securities[number as usize - 1];
+    match dice.below(1000) {
+        0..=29 => refused(dice, number, securities),
+        30..=44 => {
+            let mut line = trade(dice, b'C', number, security, None);
+            step(dice, security);
+            side(dice, &mut line, 53, security, security.price, None);
+            line
+        }
+        45..=49 => trade(dice, b'X', number, security, None),
+        50..=52 => trade(dice, b'E', number, security, None),
+        53 => level(dice, b'V'),
+        54 => level(dice, b'P'),
+        55..=56 if mode == b'A' => mode_line(dice.pick(b"NDRP")),
+        _ => next_trade(dice, number, security, None),
+    }
+}
+
+/// A letter that a trade may carry alone, without days and previous last: J on network A only.
+fn lone_letter(dice: &mut Dice, network: u8) -> u8 {
+    match network {
+        b'A' => dice.pick(b"SOLTCNBKMJ"),
+        _ => dice.pick(b"SOLTCNBKM"),
+    }
+}
+
+fn mode_line(mode: u8) -> Columns {
+    let mut line = Columns::new(b'M');
+    line.text(2, &[mode]);
+    line
+}
+
+fn run(asked: Asked, output: &mut impl Write) -> io::Result<()> {
+    let Asked { lines, count, mode, seed, kind } = asked;
     let mut dice = Dice(seed);
+    // The letters of a lettered day have dice of their own: all else is as in the plain day.
+    let mut letter_dice = Dice(!seed);
     let mut date = Columns::new(b'D');
     date.text(2, b"20030321");
     output.write_all(&date.0)?;
@@ -198,11 +263,6 @@ fn run(lines: u64, count: u64, mode: u8, seed: u64, output: &mut impl Write) -> 
         securities.push(security);
     }
     let mut written = 1 + count;
-    let mode_line = |mode: u8| {
-        let mut line = Columns::new(b'M');
-        line.text(2, &[mode]);
-        line
-    };
     if matches!(mode, b'D' | b'R' | b'P') {
         output.write_all(&mode_line(mode).0)?;
         written += 1;
@@ -210,22 +270,12 @@ fn run(lines: u64, count: u64, mode: u8, seed: u64, output: &mut impl Write) -> 
     while written < lines {
         let number = 1 + dice.below(count);
         let security = &mut securities[number as usize - 1];
-        let line = match dice.below(1000) {
-            0..=29 => refused(&mut dice, number, &securities),
-            30..=44 => {
-                let mut line = trade(&mut dice, b'C', number, security, None);
-                step(&mut dice, security);
-                side(&mut dice, &mut line, 53, security, security.price, None);
-                line
-            }
-            45..=49 => trade(&mut dice, b'X', number, security, None),
-            50..=52 => trade(&mut dice, b'E', number, security, None),
-            53 => level(&mut dice, b'V'),
-            54 => level(&mut dice, b'P'),
-            55..=56 if mode == b'A' => mode_line(dice.pick(b"NDRP")),
-            _ => {
-                step(&mut dice, security);
-                trade(&mut dice, b'T', number, security, None)
+        let line = match kind {
+            Kind::Mixed => mixed(&mut dice, number, &mut securities, mode),
+            Kind::Plain => next_trade(&mut dice, number, security, Some(b"")),
+            Kind::Lettered => {
+                let letter = lone_letter(&mut letter_dice, security.network);
+                next_trade(&mut dice, number, security, Some(&[letter]))
             }
         };
         output.write_all(&line.0)?;
@@ -234,21 +284,71 @@ fn run(lines: u64, count: u64, mode: u8, seed: u64, output: &mut impl Write) -> 
     Ok(())
 }
 
-/// The arguments, if they are lawful: room for the opening lines, 1 to 512 securities.
-fn arguments() -> Option<(u64, u64, u8, u64)> {
+/// The arguments, if they are lawful: room for the opening lines, 1 to 512 securities, changes of mode in mixed days only.
+fn arguments() -> Option<Asked> {
     let arguments: Vec<String> = std::env::args().skip(1).collect();
-    let [lines, count, mode, seed] = arguments.as_slice() else { return None };
+    let (four, kind) = match arguments.as_slice() {
+        [four @ .., kind] if four.len() == 4 => (four, kind.as_str()),
+        four => (four, "mixed"),
+    };
+    let [lines, count, mode, seed] = four else { return None };
     let (lines, count, seed): (u64, u64, u64) = (lines.parse().ok()?, count.parse().ok()?, seed.parse().ok()?);
     let &[mode @ (b'N' | b'D' | b'R' | b'P' | b'A')] = mode.as_bytes() else { return None };
-    ((1..=512).contains(&count) && lines >= count + 2).then_some((lines, count, mode, seed))
+    let kind = match kind {
+        "mixed" => Kind::Mixed,
+        "plain" if mode != b'A' => Kind::Plain,
+        "lettered" if mode != b'A' => Kind::Lettered,
+        _ => return None,
+    };
+    let room = (1..=512).contains(&count) && lines >= count + 2;
+    room.then_some(Asked { lines, count, mode, seed, kind })
 }
 
 fn main() -> io::Result<()> {
-    let Some((lines, count, mode, seed)) = arguments() else {
-        eprintln!("generate LINES SECURITIES MODE SEED: at most 512 securities, two lines more than these, a mode of N D R P A");
+    let Some(asked) = arguments() else {
+        eprintln!(
+            "generate LINES SECURITIES MODE SEED [mixed|plain|lettered]: at most 512 securities, two lines more than these, \
+             a mode of N D R P, in mixed days also A"
+        );
         std::process::exit(2);
     };
     let mut output = BufWriter::with_capacity(1 << 18, io::stdout().lock());
-    run(lines, count, mode, seed, &mut output)?;
+    run(asked, &mut output)?;
     output.flush()
+}
+
+#[cfg(test)]
+mod tests {
+    use super::*;
+
+    fn day(mode: u8, kind: Kind) -> Vec<u8> {
+        let mut day = Vec::new();
+        run(Asked { lines: 5_000, count: 512, mode, seed: 3, kind }, &mut day).unwrap();
+        day
+    }
+
+    /// The plain and the lettered day: the same lines but for the letter, on every trade, and no line refused.
+    #[test]
+    fn plain_and_lettered() {
+        for mode in *b"NDRP" {
+            let (plain, lettered) = (day(mode, Kind::Plain), day(mode, Kind::Lettered));
+            let pairs = || plain.chunks(101).zip(lettered.chunks(101));
+            assert!(plain.len() == 5_000 * 101 && lettered.len() == plain.len());
+            for (before, after) in pairs() {
+                let (mut stripped, letter) = (after.to_vec(), after[30]);
+                if before[0] == b'T' {
+                    assert!(b"OSLNMCKBTJ".contains(&letter) && before[30..100].iter().all(|&byte| byte == b' '));
+                    stripped[30] = b' ';
+                }
+                assert_eq!(stripped, before);
+            }
+            let opening = 513 + usize::from(mode != b'N');
+            assert_eq!(pairs().filter(|(line, _)| line[0] == b'T').count(), 5_000 - opening);
+            for day in [&plain, &lettered] {
+                let (mut tape, mut refused) = (Vec::new(), Vec::new());
+                peer::program::day(day.as_slice(), &mut tape, &mut refused).unwrap();
+                assert!(!tape.is_empty() && refused.is_empty());
+            }
+        }
+    }
 }
