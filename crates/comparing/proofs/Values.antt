@@ -7,17 +7,16 @@ use lib.Dec.{eqb, leb, ltb}
 use borrow.Author.Tests.{lt-ltb, le-ltb, ltb-true, ltb-false, leb-true, leb-false, ne-eqb}
 use Rattle.text.specs.Pick.{pick}
 use Rattle.text.proofs.Booleans.{or-false}
-use Rattle.rules.specs.Price.{wholePart, units}
-use Rattle.rules.specs.Qualifying.{forRange, forLast}
-use Rattle.rules.specs.Trade.{atLevel, newHigh, newLow, fullPrice, printsAnyhow, unlikePrinted, distance, farFromPrinted, printsTrade, isNormal, highAfter, lowAfter, lastAfter, counted, afterTrade}
+use Rattle.rules.specs.Price.{units}
+use Rattle.rules.specs.Qualifying.{forRange}
+use Rattle.rules.specs.Trade.{newHigh, newLow, unlikePrinted, distance, farFromPrinted, isNormal, highAfter, lowAfter}
 use Rattle.rules.specs.declared.Mode.{Mode}
 use Rattle.rules.specs.declared.Mode.the-variants.{Normal, Dvd, Rpo, Mpv}
 use Rattle.rules.specs.declared.Price.{Price}
 use Rattle.rules.specs.declared.Side.{Side}
 use Rattle.rules.specs.declared.Settings.{Settings}
 use Rattle.rules.specs.declared.Security.{Security}
-use Rattle.comparing.specs.Parts.{newAt, lastUnlike, lastFar, printsRpo, printsMpv}
-use Rattle.rules.specs.Trade.{fullAt}
+use Rattle.comparing.specs.Parts.{newAt}
 
 -- ---- a price's value, as a callee answered it
 
@@ -33,10 +32,6 @@ module _ (v : ℕ) (p : Price) (e : v ≡ units p) (s : Security) (r : Bool) whe
   far-value st h = rw (← e) h
 
 pub ruleset values = (new-value, unlike-value, far-value)
-
-pub full-whole : (s : Security) (market : ℕ) (x : Side) (w : ℕ) (r : Bool) → w ≡ wholePart (x .price) → r ≡ fullAt s market w → r ≡ fullPrice s market x
-unfolding fullAt fullPrice
-full-whole s market x w r e h = rw (← e) h
 
 -- ---- a distance without overflow
 
@@ -81,24 +76,7 @@ module _ (m : Mode) where
   unfolding isNormal
   normal-mpv h = rw h
 
-module _ (st : Settings) (s : Security) (market : ℕ) (x : Side) where
-  pub prints-normal : st .mode ≡ Normal → true ≡ printsTrade st s market x
-  unfolding printsTrade
-  prints-normal h = rw h
-
-  pub prints-dvd : st .mode ≡ Dvd → true ≡ printsTrade st s market x
-  unfolding printsTrade
-  prints-dvd h = rw h
-
-  pub prints-rpo : (r : Bool) → st .mode ≡ Rpo → r ≡ printsRpo st s market x → r ≡ printsTrade st s market x
-  unfolding printsTrade printsRpo lastUnlike printsAnyhow atLevel
-  prints-rpo r h e = rw h e
-
-  pub prints-mpv : (r : Bool) → st .mode ≡ Mpv → r ≡ printsMpv st s market x → r ≡ printsTrade st s market x
-  unfolding printsTrade printsMpv lastFar printsAnyhow atLevel farFromPrinted distance
-  prints-mpv r h e = rw h e
-
-pub ruleset modes = (normal-yes, normal-dvd, normal-rpo, normal-mpv, prints-normal, prints-dvd, prints-rpo, prints-mpv)
+pub ruleset modes = (normal-yes, normal-dvd, normal-rpo, normal-mpv)
 
 -- ---- after a trade
 
@@ -110,21 +88,3 @@ module _ (s : Security) (x : Side) (v : ℕ) (q n : Bool) (r : ℕ) where
   pub low-moved : v ≡ units (x .price) → q ≡ forRange (x .letters) → n ≡ newLow s v → r ≡ pick (q && n) v (s .low) → r ≡ lowAfter s x
   unfolding lowAfter
   low-moved a b c e = rw (← a, ← b, ← c) e
-
-pub traded : (st : Settings) (s : Security) (market : ℕ) (x : Side) (value : ℕ) (prints ranges lasts highest lowest : Bool) (printed high low last trades qualified primaries : ℕ)
-    → value ≡ units (x .price)
-    → prints ≡ printsTrade st s market x
-    → ranges ≡ forRange (x .letters)
-    → lasts ≡ forLast (x .letters)
-    → highest ≡ newHigh s value
-    → lowest ≡ newLow s value
-    → printed ≡ pick (true && prints) value (s .printed)
-    → high ≡ pick (ranges && highest) value (s .high)
-    → low ≡ pick (ranges && lowest) value (s .low)
-    → last ≡ pick (true && lasts) value (s .last)
-    → trades ≡ counted true 5 (s .trades)
-    → qualified ≡ counted lasts 1 (s .qualified)
-    → primaries ≡ counted (eqb market (s .market)) 6 (s .primaries)
-    → (record { unit = s .unit; network = s .network; market = s .market; first = s .first; printed = printed; high = high; low = low; last = last; trades = trades; qualified = qualified; primaries = primaries }) ≡ afterTrade st s market x
-unfolding afterTrade highAfter lowAfter lastAfter
-traded st s market x value prints ranges lasts highest lowest printed high low last trades qualified primaries v p q l h w e1 e2 e3 e4 e5 e6 e7 = rw (e1, e2, e3, e4, e5, e6, e7, h, w, p, q, l, v)

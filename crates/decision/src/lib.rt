@@ -1,5 +1,7 @@
-// Which trades print and how, and what an accepted trade leaves of its security (document 01, Trades by mode). Settings and
-// securities may hold any numbers.
+// Which trades print and how, and what an accepted trade leaves of its security (document 01, "Trades by mode"). The rules are
+// decided over what they ask of a trade, each worked out once by the caller: its volume, its price in units (`value`), its whole
+// part, whether it qualifies for range (`ranges`) and for last (`lasts`), whether it has J or G (`rule`). Settings and securities
+// may hold any numbers.
 use rules::Mode;
 use rules::Security;
 use rules::Settings;
@@ -9,14 +11,151 @@ ghost use mathlib.Core.Bool.{_&&_};
 ghost use Prim.Native.Nat.{_+_, _<_};
 ghost use Rattle.text.specs.Pick.{pick};
 ghost use Rattle.rules.specs.Price.{units};
-ghost use Rattle.rules.specs.Trade.{six, fullPrice, showsVolume, printsAnyhow, printsTrade, tradeFull, tradeShows, highAfter, lowAfter, lastAfter, counted, afterTrade};
+ghost use Rattle.rules.specs.Trade.{unlikePrinted, farFromPrinted, fullAt, printsTrade, highAfter, lowAfter, lastAfter, counted};
 ghost use Rattle.prices.specs.Sound.{Sound};
-ghost use Rattle.comparing.specs.Parts.{printsRpo, printsMpv};
-ghost use Rattle.rules.specs.Trade.{fullAt};
+ghost use Rattle.comparing.specs.Parts.{newAt};
+ghost use Rattle.decision.specs.Value.{firstBy, anyhowBy, rpoBy, mpvBy, printsBy, fullBy, showsBy, afterBy};
+
+// ---- what prints
+
+// A new high or low by a trade that qualifies for them.
+fn makes_range(s: Security, value: u64, ranges: bool) -> bool
+    ensures { λ r. ⌜ r ≡ (ranges && newAt s value) ⌝ }
+{
+    if !ranges {
+        return false;
+    }
+    comparing::new_at(s, value)
+}
+
+// Qualifying for last with a price unlike the last printed, or none printed.
+fn is_unlike(s: Security, value: u64, lasts: bool) -> bool
+    ensures { λ r. ⌜ r ≡ (lasts && unlikePrinted s value) ⌝ }
+{
+    if !lasts {
+        return false;
+    }
+    comparing::unlike_printed(s, value)
+}
+
+// Qualifying for last and far from the last printed.
+fn is_far(st: Settings, s: Security, value: u64, lasts: bool) -> bool
+    ensures { λ r. ⌜ r ≡ (lasts && farFromPrinted st s value) ⌝ }
+{
+    if !lasts {
+        return false;
+    }
+    comparing::far_from_printed(st, s, value)
+}
+
+// The first trade qualifying for last.
+fn is_first(s: Security, lasts: bool) -> bool
+    ensures { λ r. ⌜ r ≡ firstBy s lasts ⌝ }
+{
+    if !lasts {
+        return false;
+    }
+    s.qualified == 0
+}
+
+// Six; at the level; unit 1; J or G.
+fn prints_anyhow(st: Settings, s: Security, market: u64, volume: u64, rule: bool) -> bool
+    ensures { λ r. ⌜ r ≡ anyhowBy st s market volume rule ⌝ }
+{
+    if comparing::six(s, market) {
+        return true; // six
+    }
+    if comparing::at_level(st, volume) {
+        return true; // at the level
+    }
+    if s.unit == 1 {
+        return true; // unit 1
+    }
+    rule // J or G
+}
+
+fn prints_rpo(
+    st: Settings,
+    s: Security,
+    market: u64,
+    volume: u64,
+    value: u64,
+    ranges: bool,
+    lasts: bool,
+    rule: bool,
+) -> bool
+    ensures { λ r. ⌜ r ≡ rpoBy st s market volume value ranges lasts rule ⌝ }
+{
+    if makes_range(s, value, ranges) {
+        return true; // a new high or low
+    }
+    if is_unlike(s, value, lasts) {
+        return true; // unlike the last printed
+    }
+    prints_anyhow(st, s, market, volume, rule)
+}
+
+fn prints_mpv(
+    st: Settings,
+    s: Security,
+    market: u64,
+    volume: u64,
+    value: u64,
+    lasts: bool,
+    rule: bool,
+) -> bool
+    ensures { λ r. ⌜ r ≡ mpvBy st s market volume value lasts rule ⌝ }
+{
+    if is_far(st, s, value, lasts) {
+        return true; // far from the last printed
+    }
+    if is_first(s, lasts) {
+        return true; // the first that qualifies
+    }
+    prints_anyhow(st, s, market, volume, rule)
+}
+
+// A trade prints.
+pub fn prints_by(
+    st: Settings,
+    s: Security,
+    market: u64,
+    volume: u64,
+    value: u64,
+    ranges: bool,
+    lasts: bool,
+    rule: bool,
+) -> bool
+    ensures { λ r. ⌜ r ≡ printsBy st s market volume value ranges lasts rule ⌝ }
+{
+    let mode = st.mode;
+    match mode {
+        Mode::Normal => true,
+        Mode::Dvd => true,
+        Mode::Rpo => prints_rpo(st, s, market, volume, value, ranges, lasts, rule),
+        Mode::Mpv => prints_mpv(st, s, market, volume, value, lasts, rule),
+    }
+}
+
+// The same of a side.
+pub fn prints_trade(st: Settings, s: Security, market: u64, x: Side) -> bool
+    requires { ⌜ Sound (x .price) ⌝ }
+    ensures { λ r. ⌜ r ≡ printsTrade st s market x ⌝ }
+{
+    let letters = x.letters;
+    let price = x.price;
+    let value = prices::in_units(price);
+    let ranges = qualifying::for_range(letters);
+    let lasts = qualifying::for_last(letters);
+    let rule = qualifying::has_rule(letters);
+    prints_by(st, s, market, x.volume, value, ranges, lasts, rule)
+}
+
+// ---- in full or short, with its volume or not
 
 // None printed yet that day, tens or higher differ from the last printed price, whole part ends in 0, unit 1, 1,000 or
 // over, six.
-pub fn full_at(s: Security, market: u64, whole: u64) -> bool
+fn full_at(s: Security, market: u64, whole: u64) -> bool
     ensures { λ r. ⌜ r ≡ fullAt s market whole ⌝ }
 {
     if s.printed == 0 {
@@ -37,119 +176,48 @@ pub fn full_at(s: Security, market: u64, whole: u64) -> bool
     comparing::six(s, market)
 }
 
-fn full_price(s: Security, market: u64, x: Side) -> bool
-    requires { ⌜ Sound (x .price) ⌝ }
-    ensures { λ r. ⌜ r ≡ fullPrice s market x ⌝ }
+// The price is printed in full.
+pub fn full_by(st: Settings, s: Security, market: u64, whole: u64) -> bool
+    ensures { λ r. ⌜ r ≡ fullBy st s market whole ⌝ }
 {
-    let price = x.price;
-    let whole = prices::whole_part(price);
+    let mode = st.mode;
+    if comparing::is_normal(mode) {
+        return true;
+    }
     full_at(s, market, whole)
 }
 
-// At the level, first trade qualifying for last, six, J or G.
-fn shows_volume(st: Settings, s: Security, market: u64, x: Side) -> bool
-    ensures { λ r. ⌜ r ≡ showsVolume st s market x ⌝ }
-{
-    let letters = x.letters;
-    if comparing::at_level(st, x.volume) {
-        return true;
-    }
-    if comparing::first_qualifying(s, letters) {
-        return true;
-    }
-    if comparing::six(s, market) {
-        return true;
-    }
-    qualifying::has_rule(letters)
-}
-
-// ---- what prints
-
-// Six; at the level; unit 1; J or G.
-fn prints_anyhow(st: Settings, s: Security, market: u64, x: Side) -> bool
-    ensures { λ r. ⌜ r ≡ printsAnyhow st s market x ⌝ }
-{
-    let letters = x.letters;
-    if comparing::six(s, market) {
-        return true;
-    }
-    if comparing::at_level(st, x.volume) {
-        return true;
-    }
-    if s.unit == 1 {
-        return true;
-    }
-    qualifying::has_rule(letters)
-}
-
-fn prints_rpo(st: Settings, s: Security, market: u64, x: Side) -> bool
-    requires { ⌜ Sound (x .price) ⌝ }
-    ensures { λ r. ⌜ r ≡ printsRpo st s market x ⌝ }
-{
-    if comparing::new_range(s, x) {
-        return true;
-    }
-    if comparing::last_unlike(s, x) {
-        return true;
-    }
-    prints_anyhow(st, s, market, x)
-}
-
-fn prints_mpv(st: Settings, s: Security, market: u64, x: Side) -> bool
-    requires { ⌜ Sound (x .price) ⌝ }
-    ensures { λ r. ⌜ r ≡ printsMpv st s market x ⌝ }
-{
-    let letters = x.letters;
-    if comparing::last_far(st, s, x) {
-        return true;
-    }
-    if comparing::first_qualifying(s, letters) {
-        return true;
-    }
-    prints_anyhow(st, s, market, x)
-}
-
-// A trade prints.
-pub fn prints_trade(st: Settings, s: Security, market: u64, x: Side) -> bool
-    requires { ⌜ Sound (x .price) ⌝ }
-    ensures { λ r. ⌜ r ≡ printsTrade st s market x ⌝ }
-{
-    let mode = st.mode;
-    match mode {
-        Mode::Normal => true,
-        Mode::Dvd => true,
-        Mode::Rpo => prints_rpo(st, s, market, x),
-        Mode::Mpv => prints_mpv(st, s, market, x),
-    }
-}
-
-// The price is printed in full.
-pub fn trade_full(st: Settings, s: Security, market: u64, x: Side) -> bool
-    requires { ⌜ Sound (x .price) ⌝ }
-    ensures { λ r. ⌜ r ≡ tradeFull st s market x ⌝ }
+// The volume is shown: at the level, first trade qualifying for last, six, J or G.
+pub fn shows_by(
+    st: Settings,
+    s: Security,
+    market: u64,
+    volume: u64,
+    lasts: bool,
+    rule: bool,
+) -> bool
+    ensures { λ r. ⌜ r ≡ showsBy st s market volume lasts rule ⌝ }
 {
     let mode = st.mode;
     if comparing::is_normal(mode) {
         return true;
     }
-    full_price(s, market, x)
-}
-
-// The volume is shown.
-pub fn trade_shows(st: Settings, s: Security, market: u64, x: Side) -> bool
-    ensures { λ r. ⌜ r ≡ tradeShows st s market x ⌝ }
-{
-    let mode = st.mode;
-    if comparing::is_normal(mode) {
+    if comparing::at_level(st, volume) {
         return true;
     }
-    shows_volume(st, s, market, x)
+    if is_first(s, lasts) {
+        return true;
+    }
+    if comparing::six(s, market) {
+        return true;
+    }
+    rule
 }
 
 // ---- high, low and last follow every accepted trade, and each correcting trade
 
 // A price that moves where the trade qualifies and its value is new.
-pub fn moved(qualifies: bool, new: bool, value: u64, held: u64) -> u64
+fn moved(qualifies: bool, new: bool, value: u64, held: u64) -> u64
     ensures { λ r. ⌜ r ≡ pick (qualifies && new) value held ⌝ }
 {
     if !qualifies {
@@ -204,7 +272,7 @@ pub fn last_after(s: Security, x: Side) -> u64
 }
 
 // A count that stops where it no longer matters.
-pub fn counted(test: bool, most: u64, count: u64) -> u64
+fn counted(test: bool, most: u64, count: u64) -> u64
     requires { ⌜ most < 1000 ⌝ }
     ensures { λ r. ⌜ r ≡ counted test most count ⌝ }
 {
@@ -218,16 +286,16 @@ pub fn counted(test: bool, most: u64, count: u64) -> u64
 }
 
 // After an accepted trade: last printed price, high, low, last, counts.
-pub fn after_trade(st: Settings, s: Security, market: u64, x: Side) -> Security
-    requires { ⌜ Sound (x .price) ⌝ }
-    ensures { λ r. ⌜ r ≡ afterTrade st s market x ⌝ }
+pub fn after_by(
+    s: Security,
+    market: u64,
+    value: u64,
+    prints: bool,
+    ranges: bool,
+    lasts: bool,
+) -> Security
+    ensures { λ r. ⌜ r ≡ afterBy s market value prints ranges lasts ⌝ }
 {
-    let letters = x.letters;
-    let price = x.price;
-    let value = prices::in_units(price);
-    let prints = prints_trade(st, s, market, x);
-    let ranges = qualifying::for_range(letters);
-    let lasts = qualifying::for_last(letters);
     Security {
         unit: s.unit,
         network: s.network,

@@ -3,18 +3,14 @@ use Prim.Native.Nat.{ℕ, _+_, _-_, _*_, _/_, _^_, _≤_, _<_}
 use native.Mathlib.Nat.{pow-le-pow-right}
 use native.Mathlib.Omega.{arith}
 use mathlib.Core.Path.{_≡_, refl, sym, ap, _∙_}
-use mathlib.Core.Bool.{Bool, true, false, _&&_, _||_, not}
+use mathlib.Core.Bool.{Bool, true, false, not}
 use mathlib.Core.List.{List, append-nil}
-use lib.Dec.{eqb}
 use borrow.Author.Tests.{not-true, not-false}
 use lib.ListN.{length, take, drop, length-take, length-drop}
 use lib.Seq.{take-take, drop-drop}
-use Rattle.text.specs.Pick.{pick, opt}
+use Rattle.text.specs.Pick.{opt}
 use Rattle.text.specs.Put.{Written}
 use Rattle.text.proofs.Writing.{written-nothing}
-use Rattle.text.proofs.Booleans.{or-false}
-use Rattle.rules.specs.declared.Mode.{Mode}
-use Rattle.rules.specs.declared.Mode.the-variants.{Normal, Dvd, Rpo, Mpv}
 use Rattle.rules.specs.declared.Price.{Price}
 use Rattle.rules.specs.declared.Side.{Side}
 use Rattle.rules.specs.declared.Settings.{Settings}
@@ -25,51 +21,19 @@ use Rattle.rules.specs.Side.{headText, tailText, sideText}
 use Rattle.rules.specs.Day.{showsTemporary}
 use Rattle.rules.specs.Conditions.{hasRule, afterName, afterPrice, atEnd}
 use Rattle.rules.specs.Qualifying.{forNeither, forRangeOnly, forRange, forLast}
-use Rattle.rules.specs.Trade.{six, firstQualifying, newHigh, newLow, newRange, unlikePrinted, farFromPrinted, fullPrice, showsVolume, printsAnyhow, printsTrade, tradeFull, tradeShows, highAfter, lowAfter, lastAfter, counted, afterTrade}
+use Rattle.rules.specs.Trade.{printsTrade, tradeFull, tradeShows, afterTrade}
 use Rattle.trade.proofs.Short.{Short, side-short}
 use Rattle.symbol.proofs.Text.{name-most}
 use Rattle.table.specs.Rows.{row, withRow, nameOf}
 use Rattle.plainline.specs.declared.Plain.{Plain}
 use Rattle.plainline.specs.Plain.{noLetters, plainSide}
-use Rattle.plaintrade.specs.Plain.{tradeText, anyhow, plainRpo, plainMpv, byMode, plainPrints, plainFull, plainShows, plainAfter, plainPrint, priceOf, Ready, ReadFrom}
+use Rattle.plaintrade.specs.Plain.{tradeText, plainPrint, priceOf, Ready, ReadFrom}
+use Rattle.decision.specs.Value.{printsBy, fullBy, showsBy, afterBy}
+use Rattle.decision.proofs.Value as value
 use Rattle.plainprint.specs.Laid.{Laid}
 use Rattle.plainprint.specs.Print.{plainText, PriceColumns, Columned}
 use Rattle.plainprint.proofs.Digits.{whole-units}
 use Rattle.text.proofs.Parts.{take-within}
-
--- ---- by mode
-
-module _ (st : Settings) (s : Security) (market volume value : ℕ) where
-  in-mode : (m : Mode) → st .mode ≡ m → byMode m (plainRpo st s market volume value) (plainMpv st s market volume value) ≡ plainPrints st s market volume value
-  unfolding plainPrints
-  in-mode m h = sym (ap (λ (k : Mode). byMode k (plainRpo st s market volume value) (plainMpv st s market volume value)) h)
-
-  pub prints-normal : st .mode ≡ Normal → true ≡ plainPrints st s market volume value
-  unfolding byMode
-  prints-normal h = in-mode Normal h
-
-  pub prints-dvd : st .mode ≡ Dvd → true ≡ plainPrints st s market volume value
-  unfolding byMode
-  prints-dvd h = in-mode Dvd h
-
-  pub prints-rpo : (r : Bool) → st .mode ≡ Rpo → r ≡ plainRpo st s market volume value → r ≡ plainPrints st s market volume value
-  unfolding byMode
-  prints-rpo r h e = e ∙ in-mode Rpo h
-
-  pub prints-mpv : (r : Bool) → st .mode ≡ Mpv → r ≡ plainMpv st s market volume value → r ≡ plainPrints st s market volume value
-  unfolding byMode
-  prints-mpv r h e = e ∙ in-mode Mpv h
-
-pub ruleset modes = (prints-normal, prints-dvd, prints-rpo, prints-mpv)
-
--- ---- the security after it
-
-pub after-it : (s : Security) (market value : ℕ) (prints a b : Bool) (printed high low trades qualified primaries : ℕ)
-    → printed ≡ pick (true && prints) value (s .printed) → a ≡ newHigh s value → high ≡ pick (true && a) value (s .high) → b ≡ newLow s value → low ≡ pick (true && b) value (s .low)
-    → trades ≡ counted true 5 (s .trades) → qualified ≡ counted true 1 (s .qualified) → primaries ≡ counted (eqb market (s .market)) 6 (s .primaries)
-    → (record { unit = s .unit; network = s .network; market = s .market; first = s .first; printed = printed; high = high; low = low; last = value; trades = trades; qualified = qualified; primaries = primaries }) ≡ plainAfter s market value prints
-unfolding plainAfter
-after-it s market value prints a b printed high low trades qualified primaries e1 e2 e3 e4 e5 e6 e7 e8 = rw (e1, e3, e2, e5, e4, e6, e7, e8)
 
 -- ---- the name at a place
 
@@ -90,10 +54,6 @@ module _ (names : List ℕ) (i : ℕ) where
 
 -- ---- what `rules` says of a side without letters
 
-or-or : (a b c : Bool) → ((a || b) || c) ≡ (a || (b || c))
-or-or true b c = refl
-or-or false b c = refl
-
 pub text-is : (s : Security) (volume n d : ℕ) (name : List ℕ) (full shows : Bool) → sideText (nameText (showsTemporary s) name) (s .network) (s .unit) full shows (plainSide volume n d) ≡ plainText name s full shows volume (record { n = n; d = d })
 unfolding sideText headText tailText plainText plainSide noLetters afterName afterPrice atEnd opt
 text-is s volume n d name full shows = rw (append-nil (nameText (showsTemporary s) name)) (append-nil _)
@@ -105,34 +65,21 @@ module _ (st : Settings) (s : Security) (market volume n d : ℕ) where
   abbrev price : Price
   price = record { n = n; d = d }
 
-  anyhow-is : printsAnyhow st s market x ≡ anyhow st s market volume
-  unfolding printsAnyhow anyhow plainSide noLetters hasRule
-  anyhow-is = rw (or-false (eqb (s .unit) 1))
+  pub prints-is : printsTrade st s market x ≡ printsBy st s market volume (units price) true true false
+  unfolding plainSide noLetters forRange forLast forNeither forRangeOnly hasRule
+  prints-is = value.prints-is st s market x
 
-  rpo-is : (newRange s x || ((forLast (x .letters) && unlikePrinted s (units (x .price))) || printsAnyhow st s market x)) ≡ plainRpo st s market volume (units price)
-  unfolding newRange plainRpo plainSide noLetters forRange forLast forNeither forRangeOnly
-  rpo-is = rw anyhow-is (or-or (newHigh s (units price)) (newLow s (units price)) _)
+  pub full-is : tradeFull st s market x ≡ fullBy st s market (wholePart price)
+  unfolding plainSide
+  full-is = value.full-is st s market x
 
-  mpv-is : ((forLast (x .letters) && farFromPrinted st s (units (x .price))) || (firstQualifying s (x .letters) || printsAnyhow st s market x)) ≡ plainMpv st s market volume (units price)
-  unfolding plainMpv plainSide noLetters firstQualifying forLast forNeither forRangeOnly
-  mpv-is = rw anyhow-is
+  pub shows-is : tradeShows st s market x ≡ showsBy st s market volume true false
+  unfolding plainSide noLetters forLast forNeither forRangeOnly hasRule
+  shows-is = value.shows-is st s market x
 
-  pub prints-is : printsTrade st s market x ≡ plainPrints st s market volume (units price)
-  unfolding printsTrade plainPrints byMode
-  prints-is = ap (λ (a : Bool). byMode (st .mode) a ((forLast (x .letters) && farFromPrinted st s (units (x .price))) || (firstQualifying s (x .letters) || printsAnyhow st s market x))) rpo-is
-      ∙ ap (λ (a : Bool). byMode (st .mode) (plainRpo st s market volume (units price)) a) mpv-is
-
-  pub full-is : tradeFull st s market x ≡ plainFull st s market (wholePart price)
-  unfolding tradeFull plainFull fullPrice plainSide
-  full-is = refl
-
-  pub shows-is : tradeShows st s market x ≡ plainShows st s market volume
-  unfolding tradeShows plainShows showsVolume plainSide noLetters firstQualifying forLast forNeither forRangeOnly hasRule
-  shows-is = rw (or-false (six s market))
-
-  pub after-is : afterTrade st s market x ≡ plainAfter s market (units price) (printsTrade st s market x)
-  unfolding afterTrade plainAfter highAfter lowAfter lastAfter plainSide noLetters forRange forLast forNeither forRangeOnly pick
-  after-is = refl
+  pub after-is : afterTrade st s market x ≡ afterBy s market (units price) (printsTrade st s market x) true true
+  unfolding plainSide noLetters forRange forLast forNeither forRangeOnly
+  after-is = value.after-is st s market x
 
 -- ---- the print, written
 
@@ -182,27 +129,27 @@ module _ (st : Settings) (s : Security) (names : List ℕ) (p : Plain) (prints :
   unfolding plainPrint opt
   unprinted b h = rw (not-true prints h) (written-nothing b)
 
-  pub printed : (value r : ℕ) (full shows : Bool) (b a : List ℕ) → Ready s p → value ≡ units (priceOf p) → not prints ≡ false → full ≡ plainFull st s (p .market) (value / 100000000) → shows ≡ plainShows st s (p .market) (p .volume)
+  pub printed : (value r : ℕ) (full shows : Bool) (b a : List ℕ) → Ready s p → value ≡ units (priceOf p) → not prints ≡ false → full ≡ fullBy st s (p .market) (value / 100000000) → shows ≡ showsBy st s (p .market) (p .volume) true false
       → Written (plainText (cutOut names (p .security - 1)) s full shows (p .volume) (priceOf p)) b a r → Written (plainPrint st s names p prints) b a r
   unfolding plainPrint opt
   printed value r full shows b a q v h f g t = rw (not-false prints h, ← whole-is s p value q v, ← f, ← g, ← slot names (p .security - 1)) t
 
 -- ---- the whole trade
 
-module _ (st : Settings) (table : List ℕ) (s : Security) (names : List ℕ) (p : Plain) (value : ℕ) (prints : Bool) (loaded : s ≡ row table (p .security - 1)) (valued : value ≡ units (record { n = p .n; d = p .d })) (decided : prints ≡ plainPrints st s (p .market) (p .volume) value) where
+module _ (st : Settings) (table : List ℕ) (s : Security) (names : List ℕ) (p : Plain) (value : ℕ) (prints : Bool) (loaded : s ≡ row table (p .security - 1)) (valued : value ≡ units (record { n = p .n; d = p .d })) (decided : prints ≡ printsBy st s (p .market) (p .volume) value true true false) where
   pub ready : Ready (row table (p .security - 1)) p → Ready s p
   ready h = rw loaded h
 
   decided-is : prints ≡ printsTrade st s (p .market) (plainSide (p .volume) (p .n) (p .d))
-  decided-is = decided ∙ (ap (plainPrints st s (p .market) (p .volume)) valued ∙ sym (prints-is st s (p .market) (p .volume) (p .n) (p .d)))
+  decided-is = decided ∙ (ap (λ (v : ℕ). printsBy st s (p .market) (p .volume) v true true false) valued ∙ sym (prints-is st s (p .market) (p .volume) (p .n) (p .d)))
 
   print-is : plainPrint st s names p prints ≡ tradeText st s (nameOf names (p .security - 1)) (p .market) (plainSide (p .volume) (p .n) (p .d))
   unfolding plainPrint tradeText
   print-is = rw (decided-is, full-is st s (p .market) (p .volume) (p .n) (p .d), shows-is st s (p .market) (p .volume) (p .n) (p .d), text-is s (p .volume) (p .n) (p .d))
 
-  pub stored : (after : Security) (table′ : List ℕ) → after ≡ plainAfter s (p .market) value prints → table′ ≡ withRow table (p .security - 1) after
+  pub stored : (after : Security) (table′ : List ℕ) → after ≡ afterBy s (p .market) value prints true true → table′ ≡ withRow table (p .security - 1) after
       → table′ ≡ withRow table (p .security - 1) (afterTrade st (row table (p .security - 1)) (p .market) (plainSide (p .volume) (p .n) (p .d)))
-  stored after table′ e f = f ∙ ap (withRow table (p .security - 1)) (e ∙ (ap (λ (v : ℕ). plainAfter s (p .market) v prints) valued ∙ (ap (plainAfter s (p .market) (units (record { n = p .n; d = p .d }))) decided-is ∙ (sym (after-is st s (p .market) (p .volume) (p .n) (p .d)) ∙ ap (λ (k : Security). afterTrade st k (p .market) (plainSide (p .volume) (p .n) (p .d))) loaded))))
+  stored after table′ e f = f ∙ ap (withRow table (p .security - 1)) (e ∙ (ap (λ (v : ℕ). afterBy s (p .market) v prints true true) valued ∙ (ap (λ (k : Bool). afterBy s (p .market) (units (record { n = p .n; d = p .d })) k true true) decided-is ∙ (sym (after-is st s (p .market) (p .volume) (p .n) (p .d)) ∙ ap (λ (k : Security). afterTrade st k (p .market) (plainSide (p .volume) (p .n) (p .d))) loaded))))
 
   pub written : (b a : List ℕ) (r : ℕ) → Written (plainPrint st s names p prints) b a r → Written (tradeText st (row table (p .security - 1)) (nameOf names (p .security - 1)) (p .market) (plainSide (p .volume) (p .n) (p .d))) b a r
   written b a r w = rw (← loaded) (rw print-is at w)

@@ -1,7 +1,6 @@
 // A plain trade, of a volume and a price alone: whether it prints, its print, written straight to the tape, and the security
 // after it. What it does is what `decision` and `trade` say of its side; the letters, days and previous last are not asked.
 use plainline::Plain;
-use rules::Mode;
 use rules::Price;
 use rules::Security;
 use rules::Settings;
@@ -15,109 +14,7 @@ ghost use Rattle.rules.specs.Trade.{afterTrade};
 ghost use Rattle.table.specs.Rows.{row, withRow, nameOf};
 ghost use Rattle.plainline.specs.Plain.{plainSide};
 ghost use Rattle.plainprint.specs.Laid.{Laid};
-ghost use Rattle.plaintrade.specs.Plain.{anyhow, plainRpo, plainMpv, plainPrints, plainFull, plainShows, plainAfter, plainPrint, tradeText, priceOf, Ready, ReadFrom};
-
-// ---- what prints
-
-// Six; at the level; unit 1.
-fn prints_anyhow(st: Settings, s: Security, market: u64, volume: u64) -> bool
-    ensures { λ r. ⌜ r ≡ anyhow st s market volume ⌝ }
-{
-    if comparing::six(s, market) {
-        return true;
-    }
-    if comparing::at_level(st, volume) {
-        return true;
-    }
-    s.unit == 1
-}
-
-fn prints_rpo(st: Settings, s: Security, market: u64, volume: u64, value: u64) -> bool
-    ensures { λ r. ⌜ r ≡ plainRpo st s market volume value ⌝ }
-{
-    if comparing::new_high(s, value) {
-        return true;
-    }
-    if comparing::new_low(s, value) {
-        return true;
-    }
-    if comparing::unlike_printed(s, value) {
-        return true;
-    }
-    prints_anyhow(st, s, market, volume)
-}
-
-fn prints_mpv(st: Settings, s: Security, market: u64, volume: u64, value: u64) -> bool
-    ensures { λ r. ⌜ r ≡ plainMpv st s market volume value ⌝ }
-{
-    if comparing::far_from_printed(st, s, value) {
-        return true;
-    }
-    if s.qualified == 0 {
-        return true;
-    }
-    prints_anyhow(st, s, market, volume)
-}
-
-fn prints_plain(st: Settings, s: Security, market: u64, volume: u64, value: u64) -> bool
-    ensures { λ r. ⌜ r ≡ plainPrints st s market volume value ⌝ }
-{
-    let mode = st.mode;
-    match mode {
-        Mode::Normal => true,
-        Mode::Dvd => true,
-        Mode::Rpo => prints_rpo(st, s, market, volume, value),
-        Mode::Mpv => prints_mpv(st, s, market, volume, value),
-    }
-}
-
-// The price is printed in full.
-fn is_full(st: Settings, s: Security, market: u64, whole: u64) -> bool
-    ensures { λ r. ⌜ r ≡ plainFull st s market whole ⌝ }
-{
-    let mode = st.mode;
-    if comparing::is_normal(mode) {
-        return true;
-    }
-    decision::full_at(s, market, whole)
-}
-
-// The volume is shown.
-fn is_shown(st: Settings, s: Security, market: u64, volume: u64) -> bool
-    ensures { λ r. ⌜ r ≡ plainShows st s market volume ⌝ }
-{
-    let mode = st.mode;
-    if comparing::is_normal(mode) {
-        return true;
-    }
-    if comparing::at_level(st, volume) {
-        return true;
-    }
-    if s.qualified == 0 {
-        return true;
-    }
-    comparing::six(s, market)
-}
-
-// ---- the security after it
-
-fn after_plain(s: Security, market: u64, value: u64, prints: bool) -> Security
-    ensures { λ r. ⌜ r ≡ plainAfter s market value prints ⌝ }
-{
-    Security {
-        unit: s.unit,
-        network: s.network,
-        market: s.market,
-        first: s.first,
-        printed: decision::moved(true, prints, value, s.printed),
-        high: decision::moved(true, comparing::new_high(s, value), value, s.high),
-        low: decision::moved(true, comparing::new_low(s, value), value, s.low),
-        last: value,
-        trades: decision::counted(true, 5, s.trades),
-        qualified: decision::counted(true, 1, s.qualified),
-        primaries: decision::counted(market == s.market, 6, s.primaries),
-    }
-}
+ghost use Rattle.plaintrade.specs.Plain.{plainPrint, tradeText, priceOf, Ready, ReadFrom};
 
 // ---- the print
 
@@ -151,8 +48,8 @@ fn write_plain(
     }
     let price = Price { n: p.n, d: p.d };
     let whole = value / 100000000;
-    let full = is_full(st, s, p.market, whole);
-    let shows = is_shown(st, s, p.market, p.volume);
+    let full = decision::full_by(st, s, p.market, whole);
+    let shows = decision::shows_by(st, s, p.market, p.volume, true, false);
     let all = &names[..];
     let from = (p.security - 1) as usize * 19;
     let to = from + 19;
@@ -188,8 +85,8 @@ pub fn take_plain(
     let s = table::load(table, place);
     let price = Price { n: p.n, d: p.d };
     let value = prices::in_units(price);
-    let prints = prints_plain(st, s, p.market, p.volume, value);
-    let after = after_plain(s, p.market, value, prints);
+    let prints = decision::prints_by(st, s, p.market, p.volume, value, true, true, false);
+    let after = decision::after_by(s, p.market, value, prints, true, true);
     table::store(table, place, after);
     write_plain(tape, names, st, s, p, line, value, prints)
 }

@@ -7,7 +7,11 @@ use mathlib.Core.List.{List, [], _∷_}
 use lib.ListN.{take, drop}
 use borrow.Author.Tests.{not-true, not-false}
 use Rattle.rules.specs.Names.{sameName}
-use Rattle.rules.specs.Trade.{printsTrade, tradeFull, tradeShows, afterTrade}
+use Rattle.rules.specs.Price.{wholePart, units}
+use Rattle.rules.specs.Conditions.{hasRule}
+use Rattle.rules.specs.Qualifying.{forRange, forLast}
+use Rattle.decision.specs.Value.{printsBy, fullBy, showsBy, afterBy}
+use Rattle.decision.proofs.Value.{side-prints, side-full, side-shows, side-after}
 use Rattle.rules.specs.Correction.{printsCorrection, correctionFull, correctionShows, cancelFull, cancelShows, afterCorrection}
 use Rattle.text.specs.Pick.{pick}
 use Rattle.rules.specs.Day.{isEntered, showsTemporary, entered, takenName}
@@ -58,10 +62,23 @@ name-none table names name i x e h = let q : 512 - i ≡ 0 = omega arith in rw (
 
 -- ---- a trade
 
-pub planned : (st : Settings) (s : Security) (t : Trade) (a b c d : Bool) (e : Security) → a ≡ showsTemporary s → b ≡ printsTrade st s (t .market) (t .side) → c ≡ tradeFull st s (t .market) (t .side) → d ≡ tradeShows st s (t .market) (t .side) → e ≡ afterTrade st s (t .market) (t .side)
+pub planned : (st : Settings) (s : Security) (t : Trade) (value whole : ℕ) (ranges lasts rule a b c d : Bool) (e : Security)
+    → value ≡ units (t .side .price)
+    → whole ≡ wholePart (t .side .price)
+    → ranges ≡ forRange (t .side .letters)
+    → lasts ≡ forLast (t .side .letters)
+    → rule ≡ hasRule (t .side .letters)
+    → a ≡ showsTemporary s
+    → b ≡ printsBy st s (t .market) (t .side .volume) value ranges lasts rule
+    → c ≡ fullBy st s (t .market) whole
+    → d ≡ showsBy st s (t .market) (t .side .volume) lasts rule
+    → e ≡ afterBy s (t .market) value b ranges lasts
     → (record { place = t .security - 1; side = t .side; network = s .network; unit = s .unit; temporary = a; prints = b; full = c; shows = d; after = e }) ≡ printPlan st s t
 unfolding printPlan
-planned st s t a b c d e p q r u v = rw (p, q, r, u, v)
+planned st s t value whole ranges lasts rule a b c d e v w ra la ru p q r u o =
+    let x = t .side in
+    let k = side-prints st s (t .market) x value ranges lasts rule b v ra la ru q in
+    rw (p, side-after st s (t .market) x value b ranges lasts e v k ra la o, k, side-full st s (t .market) x whole c w r, side-shows st s (t .market) x lasts rule d la ru u)
 
 pub trade-there : (st : Settings) (table : List ℕ) (s : Security) (t : Trade) (i : ℕ) (r : Plan) → s ≡ row table i → r ≡ tradePlan st s t → r ≡ tradePlan st (row table i) t
 trade-there st table s t i r e h = rw (← e) h

@@ -189,16 +189,24 @@ pub fn print_plan(st: Settings, s: Security, t: Trade) -> TradePlan
     ensures { λ r. ⌜ r ≡ printPlan st s t ⌝ }
 {
     let x = t.side;
+    let letters = x.letters;
+    let price = x.price;
+    let value = prices::in_units(price);
+    let whole = prices::whole_part(price);
+    let ranges = qualifying::for_range(letters);
+    let lasts = qualifying::for_last(letters);
+    let rule = qualifying::has_rule(letters);
+    let prints = decision::prints_by(st, s, t.market, x.volume, value, ranges, lasts, rule);
     TradePlan {
         place: (t.security - 1) as usize,
         side: x,
         network: s.network,
         unit: s.unit,
         temporary: qualifying::shows_temporary(s),
-        prints: decision::prints_trade(st, s, t.market, x),
-        full: decision::trade_full(st, s, t.market, x),
-        shows: decision::trade_shows(st, s, t.market, x),
-        after: decision::after_trade(st, s, t.market, x),
+        prints: prints,
+        full: decision::full_by(st, s, t.market, whole),
+        shows: decision::shows_by(st, s, t.market, x.volume, lasts, rule),
+        after: decision::after_by(s, t.market, value, prints, ranges, lasts),
     }
 }
 

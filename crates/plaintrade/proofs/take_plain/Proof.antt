@@ -12,11 +12,11 @@ load-requires c κs = search needs
 in-units-requires : tie.Need-in-units-requires
 in-units-requires c κs = search needs
 
-prints-plain-requires : tie.Need-prints-plain-requires
-prints-plain-requires c κs = search needs
+prints-by-requires : tie.Need-prints-by-requires
+prints-by-requires c κs = search needs
 
-after-plain-requires : tie.Need-after-plain-requires
-after-plain-requires c κs = search needs
+after-by-requires : tie.Need-after-by-requires
+after-by-requires c κs = search needs
 
 store-requires : tie.Need-store-requires
 store-requires c κs = search needs
@@ -37,8 +37,8 @@ take-plain-spec =
     sub-place
     load-requires
     in-units-requires
-    prints-plain-requires
-    after-plain-requires
+    prints-by-requires
+    after-by-requires
     store-requires
     write-plain-requires
     same-length

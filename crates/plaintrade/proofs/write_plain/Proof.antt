@@ -8,11 +8,11 @@ use Rattle.plaintrade.proofs.write_plain.Tie as tie
 returns : tie.Need-returns
 returns c = search unprinted
 
-is-full-requires : tie.Need-is-full-requires
-is-full-requires c κs = search needs
+full-by-requires : tie.Need-full-by-requires
+full-by-requires c κs = search needs
 
-is-shown-requires : tie.Need-is-shown-requires
-is-shown-requires c κs = search needs
+shows-by-requires : tie.Need-shows-by-requires
+shows-by-requires c κs = search needs
 
 sub-from : tie.Need-sub-from
 sub-from c = search needs
@@ -57,8 +57,8 @@ write-plain-spec =
     tie.close
     (tie.spec
     returns
-    is-full-requires
-    is-shown-requires
+    full-by-requires
+    shows-by-requires
     sub-from
     mul-from
     add-to

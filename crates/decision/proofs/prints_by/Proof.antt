@@ -1,7 +1,8 @@
-use Rattle.plaintrade.proofs.Trades.{modes}
+use Rattle.decision.proofs.Value.{by-mode}
+use Rattle.decision.specs.Value.{printsBy}
 use borrow.Author.Needs.{needs}
-use Rattle.plaintrade.proofs.prints_plain.Statement.{statement}
-use Rattle.plaintrade.proofs.prints_plain.Tie as tie
+use Rattle.decision.proofs.prints_by.Statement.{statement}
+use Rattle.decision.proofs.prints_by.Tie as tie
 
 enum-told : tie.Need-enum-told
 enum-told c = search needs
@@ -22,19 +23,23 @@ prints-mpv-requires : tie.Need-prints-mpv-requires
 prints-mpv-requires c κs = search needs
 
 returns : tie.Need-returns
-returns c = search modes
+unfolding printsBy
+returns c = search by-mode
 
 returns-2 : tie.Need-returns-2
-returns-2 c = search modes
+unfolding printsBy
+returns-2 c = search by-mode
 
 returns-3 : tie.Need-returns-3
-returns-3 c = search modes
+unfolding printsBy
+returns-3 c = search by-mode
 
 returns-4 : tie.Need-returns-4
-returns-4 c = search modes
+unfolding printsBy
+returns-4 c = search by-mode
 
-pub prints-plain-spec : {M : Type 1} → statement M
-prints-plain-spec =
+pub prints-by-spec : {M : Type 1} → statement M
+prints-by-spec =
     tie.close
     (tie.spec
     enum-told

@@ -1,7 +1,7 @@
-use Rattle.plaintrade.proofs.Trades.{after-it}
+use Rattle.decision.proofs.Value.{after-moved}
 use borrow.Author.Needs.{needs}
-use Rattle.plaintrade.proofs.after_plain.Statement.{statement}
-use Rattle.plaintrade.proofs.after_plain.Tie as tie
+use Rattle.decision.proofs.after_by.Statement.{statement}
+use Rattle.decision.proofs.after_by.Tie as tie
 
 moved-requires : tie.Need-moved-requires
 moved-requires c κs = search needs
@@ -18,6 +18,9 @@ new-low-requires c κs = search needs
 moved-requires-3 : tie.Need-moved-requires-3
 moved-requires-3 c κs = search needs
 
+moved-requires-4 : tie.Need-moved-requires-4
+moved-requires-4 c κs = search needs
+
 counted-requires : tie.Need-counted-requires
 counted-requires c κs = search needs
 
@@ -28,10 +31,10 @@ counted-requires-3 : tie.Need-counted-requires-3
 counted-requires-3 c κs = search needs
 
 returns : tie.Need-returns
-returns c = search after-it depth 40 fits 10000
+returns c = search after-moved
 
-pub after-plain-spec : {M : Type 1} → statement M
-after-plain-spec =
+pub after-by-spec : {M : Type 1} → statement M
+after-by-spec =
     tie.close
     (tie.spec
     moved-requires
@@ -39,6 +42,7 @@ after-plain-spec =
     moved-requires-2
     new-low-requires
     moved-requires-3
+    moved-requires-4
     counted-requires
     counted-requires-2
     counted-requires-3
