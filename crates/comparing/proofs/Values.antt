@@ -9,14 +9,14 @@ use Rattle.text.specs.Pick.{pick}
 use Rattle.text.proofs.Booleans.{or-false}
 use Rattle.rules.specs.Price.{units}
 use Rattle.rules.specs.Qualifying.{forRange}
-use Rattle.rules.specs.Trade.{newHigh, newLow, unlikePrinted, distance, farFromPrinted, isNormal, highAfter, lowAfter}
+use Rattle.rules.specs.Trade.{atLevel, newHigh, newLow, printsAnyhow, unlikePrinted, distance, farFromPrinted, printsTrade, isNormal, highAfter, lowAfter}
 use Rattle.rules.specs.declared.Mode.{Mode}
 use Rattle.rules.specs.declared.Mode.the-variants.{Normal, Dvd, Rpo, Mpv}
 use Rattle.rules.specs.declared.Price.{Price}
 use Rattle.rules.specs.declared.Side.{Side}
 use Rattle.rules.specs.declared.Settings.{Settings}
 use Rattle.rules.specs.declared.Security.{Security}
-use Rattle.comparing.specs.Parts.{newAt}
+use Rattle.comparing.specs.Parts.{newAt, lastUnlike, lastFar, printsRpo, printsMpv}
 
 -- ---- a price's value, as a callee answered it
 
@@ -77,6 +77,23 @@ module _ (m : Mode) where
   normal-mpv h = rw h
 
 pub ruleset modes = (normal-yes, normal-dvd, normal-rpo, normal-mpv)
+
+module _ (st : Settings) (s : Security) (market : ℕ) (x : Side) where
+  pub prints-normal : st .mode ≡ Normal → true ≡ printsTrade st s market x
+  unfolding printsTrade
+  prints-normal h = rw h
+
+  pub prints-dvd : st .mode ≡ Dvd → true ≡ printsTrade st s market x
+  unfolding printsTrade
+  prints-dvd h = rw h
+
+  pub prints-rpo : (r : Bool) → st .mode ≡ Rpo → r ≡ printsRpo st s market x → r ≡ printsTrade st s market x
+  unfolding printsTrade printsRpo lastUnlike printsAnyhow atLevel
+  prints-rpo r h e = rw h e
+
+  pub prints-mpv : (r : Bool) → st .mode ≡ Mpv → r ≡ printsMpv st s market x → r ≡ printsTrade st s market x
+  unfolding printsTrade printsMpv lastFar printsAnyhow atLevel farFromPrinted distance
+  prints-mpv r h e = rw h e
 
 -- ---- after a trade
 
