@@ -1,13 +1,16 @@
 // Corrections, cancels and errors as texts (document 01, "Corrections and cancels"): the length of each and its writer,
-// which is lent the rest of the tape. Their sides are those of trades.
+// which is lent the rest of the tape. Their sides are those of trades; a name is its columns.
 use rules::Letters;
 use rules::Side;
 ghost use mathlib.Core.Path.{_≡_};
+ghost use mathlib.Core.Bool.{false};
 ghost use Prim.Native.Nat.{_+_, _≤_};
 ghost use lib.ListN.{length};
 ghost use Rattle.text.specs.Pick.{pick, opt};
 ghost use Rattle.text.specs.Put.{Written};
+ghost use Rattle.rules.specs.Names.{nameText};
 ghost use Rattle.rules.specs.Side.{sideText};
+ghost use Rattle.amendment.specs.Original.{originalText};
 ghost use Rattle.rules.specs.Correction.{repeatsName, endPair, correctionText, cancelText, cancelOpening, errorOpening};
 
 // ---- parts
@@ -28,7 +31,7 @@ fn write_end_pair(rest: &mut [u8], x: Side) -> usize
     text::write_optional(rest, !letters.g, b">>")
 }
 
-// The correcting trade, with its name or without, by the letters.
+// The correcting trade, with its name or without, by the letters: blank columns are no name.
 fn correcting_length(
     letters: Letters,
     name: &[u8],
@@ -38,13 +41,13 @@ fn correcting_length(
     shows: bool,
     y: Side,
 ) -> usize
-    requires { ⌜ (1 ≤ unit) × (y .price .d ≤ 8) × (y .previous .d ≤ 8) ⌝ }
-    ensures { λ r. ⌜ (r ≡ length (sideText (opt (repeatsName letters) (now (name .entry))) network unit full shows y)) × (r ≤ length (now (name .entry)) + 161) ⌝ }
+    requires { ⌜ (length (now name) ≡ 19) × (1 ≤ unit) × (y .price .d ≤ 8) × (y .previous .d ≤ 8) ⌝ }
+    ensures { λ r. ⌜ (r ≡ length (sideText (opt (repeatsName letters) (nameText false (now (name .entry)))) network unit full shows y)) × (r ≤ 183) ⌝ }
 {
     if qualifying::repeats_name(letters) {
-        return trade::side_length(name, network, unit, full, shows, y);
+        return trade::side_length(name, false, network, unit, full, shows, y);
     }
-    trade::side_length(&name[..0], network, unit, full, shows, y)
+    trade::side_length(b"                   ", false, network, unit, full, shows, y)
 }
 
 fn write_correcting(
@@ -57,13 +60,22 @@ fn write_correcting(
     shows: bool,
     y: Side,
 ) -> usize
-    requires { ⌜ (1 ≤ unit) × (y .price .d ≤ 8) × (y .previous .d ≤ 8) × (length (sideText (opt (repeatsName letters) (now name)) network unit full shows y) ≤ length (now rest)) ⌝ }
-    ensures { λ r. ⌜ Written (sideText (opt (repeatsName letters) (now (name .entry))) network unit full shows y) (now (rest .entry)) (now (rest .exit)) r ⌝ }
+    requires { ⌜ (length (now name) ≡ 19) × (1 ≤ unit) × (y .price .d ≤ 8) × (y .previous .d ≤ 8) × (length (sideText (opt (repeatsName letters) (nameText false (now name))) network unit full shows y) ≤ length (now rest)) ⌝ }
+    ensures { λ r. ⌜ Written (sideText (opt (repeatsName letters) (nameText false (now (name .entry)))) network unit full shows y) (now (rest .entry)) (now (rest .exit)) r ⌝ }
 {
     if qualifying::repeats_name(letters) {
-        return trade::write_side(rest, name, network, unit, full, shows, y);
+        return trade::write_side(rest, name, false, network, unit, full, shows, y);
     }
-    trade::write_side(rest, &name[..0], network, unit, full, shows, y)
+    trade::write_side(
+        rest,
+        b"                   ",
+        false,
+        network,
+        unit,
+        full,
+        shows,
+        y,
+    )
 }
 
 // `<<ERR.` or `<<CXL.`.
@@ -88,10 +100,10 @@ pub fn cancel_length(
     shows: bool,
     x: Side,
 ) -> usize
-    requires { ⌜ (1 ≤ unit) × (x .price .d ≤ 8) × (x .previous .d ≤ 8) ⌝ }
-    ensures { λ r. ⌜ r ≡ length (cancelText (pick error errorOpening cancelOpening) (now (name .entry)) network unit full shows x) ⌝ }
+    requires { ⌜ (length (now name) ≡ 19) × (1 ≤ unit) × (x .price .d ≤ 8) × (x .previous .d ≤ 8) ⌝ }
+    ensures { λ r. ⌜ r ≡ length (cancelText (pick error errorOpening cancelOpening) (nameText false (now (name .entry))) network unit full shows x) ⌝ }
 {
-    6 + trade::side_length(name, network, unit, full, shows, x) + end_pair_length(x)
+    6 + trade::side_length(name, false, network, unit, full, shows, x) + end_pair_length(x)
 }
 
 pub fn write_cancel(
@@ -104,11 +116,11 @@ pub fn write_cancel(
     shows: bool,
     x: Side,
 ) -> usize
-    requires { ⌜ (1 ≤ unit) × (x .price .d ≤ 8) × (x .previous .d ≤ 8) × (length (cancelText (pick error errorOpening cancelOpening) (now name) network unit full shows x) ≤ length (now rest)) ⌝ }
-    ensures { λ r. ⌜ Written (cancelText (pick error errorOpening cancelOpening) (now (name .entry)) network unit full shows x) (now (rest .entry)) (now (rest .exit)) r ⌝ }
+    requires { ⌜ (length (now name) ≡ 19) × (1 ≤ unit) × (x .price .d ≤ 8) × (x .previous .d ≤ 8) × (length (cancelText (pick error errorOpening cancelOpening) (nameText false (now name)) network unit full shows x) ≤ length (now rest)) ⌝ }
+    ensures { λ r. ⌜ Written (cancelText (pick error errorOpening cancelOpening) (nameText false (now (name .entry))) network unit full shows x) (now (rest .entry)) (now (rest .exit)) r ⌝ }
 {
     let at = write_opening(rest, error);
-    let at2 = at + trade::write_side(&mut rest[at..], name, network, unit, full, shows, x);
+    let at2 = at + trade::write_side(&mut rest[at..], name, false, network, unit, full, shows, x);
     at2 + write_end_pair(&mut rest[at2..], x)
 }
 
@@ -123,13 +135,31 @@ pub fn correction_length(
     x: Side,
     y: Side,
 ) -> usize
-    requires { ⌜ (1 ≤ unit) × (x .price .d ≤ 8) × (x .previous .d ≤ 8) × (y .price .d ≤ 8) × (y .previous .d ≤ 8) × (length (now name) ≤ 22) ⌝ }
-    ensures { λ r. ⌜ r ≡ length (correctionText (now (name .entry)) network unit full shows x y) ⌝ }
+    requires { ⌜ (length (now name) ≡ 19) × (1 ≤ unit) × (x .price .d ≤ 8) × (x .previous .d ≤ 8) × (y .price .d ≤ 8) × (y .previous .d ≤ 8) ⌝ }
+    ensures { λ r. ⌜ r ≡ length (correctionText (nameText false (now (name .entry))) network unit full shows x y) ⌝ }
 {
     let letters = y.letters; // the length, by the correcting trade
-    let a = trade::side_length(name, network, unit, full, shows, x);
+    let a = trade::side_length(name, false, network, unit, full, shows, x);
     let b = correcting_length(letters, name, network, unit, full, shows, y);
     7 + a + 4 + b + end_pair_length(y)
+}
+
+// The original between its opening and `WAS.`.
+fn write_original(
+    rest: &mut [u8],
+    name: &[u8],
+    network: u64,
+    unit: u64,
+    full: bool,
+    shows: bool,
+    x: Side,
+) -> usize
+    requires { ⌜ (length (now name) ≡ 19) × (1 ≤ unit) × (x .price .d ≤ 8) × (x .previous .d ≤ 8) × (length (originalText (nameText false (now name)) network unit full shows x) ≤ length (now rest)) ⌝ }
+    ensures { λ r. ⌜ Written (originalText (nameText false (now (name .entry))) network unit full shows x) (now (rest .entry)) (now (rest .exit)) r ⌝ }
+{
+    let at = text::write_bytes(rest, b"<<CORR.");
+    let at2 = at + trade::write_side(&mut rest[at..], name, false, network, unit, full, shows, x);
+    at2 + text::write_bytes(&mut rest[at2..], b"WAS.")
 }
 
 pub fn write_correction(
@@ -142,16 +172,14 @@ pub fn write_correction(
     x: Side,
     y: Side,
 ) -> usize
-    requires { ⌜ (1 ≤ unit) × (x .price .d ≤ 8) × (x .previous .d ≤ 8) × (y .price .d ≤ 8) × (y .previous .d ≤ 8) × (length (correctionText (now name) network unit full shows x y) ≤ length (now rest)) ⌝ }
-    ensures { λ r. ⌜ Written (correctionText (now (name .entry)) network unit full shows x y) (now (rest .entry)) (now (rest .exit)) r ⌝ }
+    requires { ⌜ (length (now name) ≡ 19) × (1 ≤ unit) × (x .price .d ≤ 8) × (x .previous .d ≤ 8) × (y .price .d ≤ 8) × (y .previous .d ≤ 8) × (length (correctionText (nameText false (now name)) network unit full shows x y) ≤ length (now rest)) ⌝ }
+    ensures { λ r. ⌜ Written (correctionText (nameText false (now (name .entry))) network unit full shows x y) (now (rest .entry)) (now (rest .exit)) r ⌝ }
 {
     let letters = y.letters; // the text, by the correcting trade
-    let at = text::write_bytes(rest, b"<<CORR.");
-    let at2 = at + trade::write_side(&mut rest[at..], name, network, unit, full, shows, x);
-    let at3 = at2 + text::write_bytes(&mut rest[at2..], b"WAS.");
-    let at4 = at3
+    let at = write_original(rest, name, network, unit, full, shows, x);
+    let at2 = at
         + write_correcting(
-            &mut rest[at3..],
+            &mut rest[at..],
             letters,
             name,
             network,
@@ -160,5 +188,5 @@ pub fn write_correction(
             shows,
             y,
         );
-    at4 + write_end_pair(&mut rest[at4..], y)
+    at2 + write_end_pair(&mut rest[at2..], y)
 }

@@ -28,8 +28,7 @@ use Rattle.table.specs.Rows.{row, withRow, nameOf}
 use Rattle.trade.proofs.Short.{Short, side-short}
 use Rattle.dayline.specs.declared.TradeRead.{TradeRead}
 use Rattle.dayline.specs.Fields.{tradeRead}
-use Rattle.plainprint.specs.Laid.{Laid}
-use Rattle.plainprint.proofs.Layers.{cut}
+use Rattle.symbol.proofs.Text.{name-most}
 use Rattle.planner.specs.declared.TradePlan.{TradePlan}
 use Rattle.planner.specs.declared.Plan.{Plan}
 use Rattle.planner.specs.declared.Plan.the-variants.{Stop, Print}
@@ -252,14 +251,13 @@ unfolding printPlan
 sound-plan st s t q p h told entered e = rw e (record { place-is = omega (arith, h .low, h .high); unit-is = has-unit s (ap not (sym told) ∙ entered); price-is = h .price .decimals; previous-is = h .previous })
 
 -- no longer than the tape that is lent
-pub print-room : (name : List ℕ) (t : TradePlan) (m : ℕ) → SoundPrint t → t .side .volume < 10 ^ 20 → t .side .price .n < 10 ^ 20 → t .side .days < 10 ^ 20 → t .side .previous .n < 10 ^ 20 → length name ≤ 22 → 200 ≤ m → length (printText name t) ≤ m
+pub print-room : (names : List ℕ) (t : TradePlan) (m : ℕ) → SoundPrint t → t .side .volume < 10 ^ 20 → t .side .price .n < 10 ^ 20 → t .side .days < 10 ^ 20 → t .side .previous .n < 10 ^ 20 → 200 ≤ m → length (printText (nameText (t .temporary) (nameOf names (t .place))) t) ≤ m
 unfolding printText
-print-room name t m h v n d p l k =
+print-room names t m h v n d p k =
+    let name : List ℕ = nameText (t .temporary) (nameOf names (t .place)) in
+    let l = name-most (t .temporary) (nameOf names (t .place)) in
     let x : Short (t .side) = record { volume-is = v; price-is = n; decimals-are = h .price-is; days-are = d; previous-is = p; previous-decimals = h .previous-is } in
     opt-most (t .prints) _ m (omega (arith, side-short (t .side) x name (t .network) (t .unit) (t .full) (t .shows), l, k))
-
-pub named-print : (u b a tape tape′ : List ℕ) (n k : ℕ) (t : TradePlan) → Laid u b a n → Written (printText (take n a) t) tape tape′ k → Written (printText u t) tape tape′ k
-named-print u b a tape tape′ n k t v w = rw (cut v) at w
 
 pub call-told : (st : Settings) (line : List ℕ) (room : ℕ) (r : Bool) → (r ≡ true → TradeCall st line room) → r ≡ true → TradeCall st line room
 call-told st line room r f e = f e

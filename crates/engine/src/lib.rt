@@ -75,9 +75,7 @@ pub fn ask_line(
     ensures { λ r. ⌜ r ≡ asked st (now (table .entry)) (now (names .entry)) (now (line .entry)) room ⌝ }
 {
     let p = planner::plan_line(st, table, names, line);
-    let mut buffer = [0u8; 22];
-    let n = planprint::lay_printed_name(&mut buffer, names, line, p);
-    planprint::fitted(st, &buffer[..n], line, p, room)
+    planprint::fitted(st, names, line, p, room)
 }
 
 // A plain trade whose security is entered; the security is 0 where the line is none.
@@ -129,12 +127,10 @@ fn take_print(table: &mut [u64; 5632], names: &[u8; 9728], t: TradePlan, tape: &
     requires { ⌜ SoundPrint t × (200 ≤ length (now tape)) ⌝ }
     ensures { λ r. ⌜ (now (table .exit) ≡ withRow (now (table .entry)) (t .place) (t .after)) × Written (printText (nameText (t .temporary) (nameOf (now (names .entry)) (t .place))) t) (now (tape .entry)) (now (tape .exit)) r ⌝ }
 {
-    let mut buffer = [0u8; 22];
     let place = t.place;
     let after = t.after;
-    let n = plaintrade::lay_name(&mut buffer, names, place, t.temporary);
     table::store(table, place, after);
-    planprint::write_print(tape, &buffer[..n], t)
+    planprint::write_print(tape, names, t)
 }
 
 // A trade in its form and within its values: refusals 6, 10 and 11, or its print.
@@ -201,10 +197,8 @@ fn take_other(
     ensures { λ r. ⌜ Taken st (now (table .entry)) (now (names .entry)) (now (line .entry)) (now (tape .entry)) (now (table .exit)) (now (names .exit)) (now (tape .exit)) r ⌝ }
 {
     let asked = planner::plan_line(st, table, names, line);
-    let mut buffer = [0u8; 22];
-    let n = planprint::lay_printed_name(&mut buffer, names, line, asked);
-    let p = planprint::fitted(st, &buffer[..n], line, asked, tape.len());
-    let k = planprint::write_text(tape, st, &buffer[..n], line, p);
+    let p = planprint::fitted(st, names, line, asked, tape.len());
+    let k = planprint::write_text(tape, st, names, line, p);
     planstate::update_table(table, line, p);
     planstate::update_names(names, line, p);
     Answer {

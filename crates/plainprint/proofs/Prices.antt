@@ -16,9 +16,9 @@ use Rattle.text.proofs.Decimal.{decimal-small, decimal-big}
 use Rattle.rules.specs.declared.Price.{Price}
 use Rattle.rules.specs.Price.{wholePart, fraction, units, wholeText, fractionText, shortWhole, priceText}
 use Rattle.trade.proofs.Short.{price-most}
-use Rattle.plainprint.specs.Laid.{Laid}
+use Rattle.symbol.specs.Laid.{Laid}
 use Rattle.plainprint.specs.Print.{PriceColumns}
-use Rattle.plainprint.proofs.Layers.{laid-named, laid-front, laid-then, laid-byte, laid-part, laid-room}
+use Rattle.symbol.proofs.Layers.{laid-named, laid-front, laid-then, laid-byte, laid-part, laid-room}
 use Rattle.plainprint.proofs.Digits.{Ends, digits-in, places-mod, zero-fraction, nonzero-fraction, whole-below, whole-from}
 
 -- ---- dollars

@@ -15,9 +15,9 @@ use Rattle.rules.specs.Volume.{isRound, inShares, inHundreds, inTens, volumeTex
 use Rattle.volumes.proofs.VolumeBack.{small}
 use Rattle.trade.proofs.Short.{volume-most}
 use Rattle.plainprint.specs.declared.Form.{Form}
-use Rattle.plainprint.specs.Laid.{Laid}
+use Rattle.symbol.specs.Laid.{Laid}
 use Rattle.plainprint.specs.Print.{marks, markedText, Formed, VolumeColumns}
-use Rattle.plainprint.proofs.Layers.{laid-named, laid-front, laid-then, laid-part}
+use Rattle.symbol.proofs.Layers.{laid-named, laid-front, laid-then, laid-part}
 use Rattle.plainprint.proofs.Digits.{parts-length, digits-in, itself}
 
 -- ---- which digits, which mark

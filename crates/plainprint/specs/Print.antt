@@ -12,7 +12,7 @@ use Rattle.rules.specs.declared.Number.the-variants.{Is}
 use Rattle.rules.specs.declared.Price.{Price}
 use Rattle.rules.specs.declared.Security.{Security}
 use Rattle.rules.specs.Columns.{numberIn}
-use Rattle.rules.specs.Names.{letterDot, nameText}
+use Rattle.rules.specs.Names.{nameText}
 use Rattle.rules.specs.Volume.{volumeText}
 use Rattle.rules.specs.Price.{wholePart, units, priceText}
 use Rattle.rules.specs.Day.{showsTemporary}
@@ -22,10 +22,6 @@ use Rattle.plainprint.specs.declared.Form.{Form}
 -- name, volume, price
 unfoldable pub plainText : List ℕ → Security → Bool → Bool → ℕ → Price → List ℕ
 plainText name s full shows volume price = nameText (showsTemporary s) name ++ opt shows (volumeText (s .network) (s .unit) volume) ++ priceText full price
-
--- the letter dot of the part in a field that begins with this byte: a blank part has none
-unfoldable pub dotText : ℕ → List ℕ
-dotText b = pick (eqb b 32) [] (letterDot b)
 
 -- the marks of volumes, each at a place that four divides
 abbrev pub marks : List ℕ

@@ -11,91 +11,11 @@ ghost use Rattle.text.specs.Bytes.{bytes};
 ghost use Rattle.text.specs.Pick.{pick, opt};
 ghost use Rattle.text.specs.Put.{Written};
 ghost use Rattle.text.specs.Decimal.{decimal};
-ghost use Rattle.rules.specs.Columns.{word};
-ghost use Rattle.rules.specs.Names.{partText, nameText};
+ghost use Rattle.rules.specs.Names.{nameText};
 ghost use Rattle.rules.specs.Volume.{volumeText};
 ghost use Rattle.rules.specs.Price.{wholeText, shortWhole, priceText};
-ghost use Rattle.words.specs.Word.{WordOf};
-ghost use Rattle.plainprint.specs.Laid.{Laid};
-ghost use Rattle.plainprint.specs.Print.{plainText, dotText, Formed, VolumeColumns, PriceColumns, Columned};
-
-// ---- the name
-
-// The length of the text at a field's left, up to the first blank: every column is looked at, the last first.
-fn word_size(field: &[u8]) -> usize
-    ensures { λ r. ⌜ WordOf (now (field .entry)) r ⌝ }
-{
-    let mut n = field.len();
-    let mut i = field.len();
-    while 0 < i {
-        i -= 1;
-        if field[i] == 32 {
-            n = i;
-        }
-    }
-    n
-}
-
-// 0 where two bytes are the same, 1 otherwise.
-fn unlike(a: u8, b: u8) -> usize
-    ensures { λ r. ⌜ (r ≡ pick (eqb a b) 0 1) × (r ≤ 1) ⌝ }
-{
-    if a == b {
-        return 0;
-    }
-    1
-}
-
-// 1 where a part that begins with this byte has a letter dot before it: not a blank, not a raised letter.
-fn dot_size(b: u8) -> usize
-    ensures { λ r. ⌜ (r ≡ length (dotText b)) × (r ≤ 1) ⌝ }
-{
-    unlike(b, 32) * unlike(b, b'p') * unlike(b, b'r') * unlike(b, b'w')
-}
-
-// Every column is laid; the text is their front.
-fn lay_word(rest: &mut [u8], field: &[u8]) -> usize
-    requires { ⌜ length (now field) ≤ length (now rest) ⌝ }
-    ensures { λ r. ⌜ Laid (word (now (field .entry))) (now (rest .entry)) (now (rest .exit)) r × (r ≤ length (now (field .entry))) ⌝ }
-{
-    text::write_bytes(rest, field);
-    word_size(field)
-}
-
-// A part after the root.
-fn lay_part(rest: &mut [u8], field: &[u8]) -> usize
-    requires { ⌜ (1 ≤ length (now field)) × (length (now field) + 1 ≤ length (now rest)) ⌝ }
-    ensures { λ r. ⌜ Laid (partText (word (now (field .entry)))) (now (rest .entry)) (now (rest .exit)) r × (r ≤ length (now (field .entry)) + 1) ⌝ }
-{
-    rest[0] = b'.';
-    let k = dot_size(field[0]);
-    k + lay_word(&mut rest[k..], field)
-}
-
-// A part that is blank for most securities, or not shown.
-fn lay_shown(rest: &mut [u8], field: &[u8], shown: bool) -> usize
-    requires { ⌜ (1 ≤ length (now field)) × (length (now field) + 1 ≤ length (now rest)) ⌝ }
-    ensures { λ r. ⌜ Laid (opt shown (partText (word (now (field .entry))))) (now (rest .entry)) (now (rest .exit)) r × (r ≤ length (now (field .entry)) + 1) ⌝ }
-{
-    if !shown {
-        return 0;
-    }
-    if field[0] == 32 {
-        return 0;
-    }
-    lay_part(rest, field)
-}
-
-// Root, suffix, temporary suffix where it is shown, appendage.
-pub fn lay_name(rest: &mut [u8], name: &[u8], temporary: bool) -> usize
-    requires { ⌜ (length (now name) ≡ 19) × (22 ≤ length (now rest)) ⌝ }
-    ensures { λ r. ⌜ Laid (nameText temporary (now (name .entry))) (now (rest .entry)) (now (rest .exit)) r × (r ≤ 22) ⌝ }
-{
-    let a = lay_word(rest, &name[..6]);
-    let b = a + lay_part(&mut rest[a..], &name[6..13]);
-    let c = b + lay_shown(&mut rest[b..], &name[13..17], temporary);
-    c + lay_shown(&mut rest[c..], &name[17..19], true)
-}
+ghost use Rattle.symbol.specs.Laid.{Laid};
+ghost use Rattle.plainprint.specs.Print.{plainText, Formed, VolumeColumns, PriceColumns, Columned};
 
 // ---- digits
 
@@ -288,7 +208,7 @@ fn lay_text(
     requires { ⌜ (length (now name) ≡ 19) × (1 ≤ s .unit) × Columned (now columns) volume price value whole × (96 ≤ length (now rest)) ⌝ }
     ensures { λ r. ⌜ Laid (plainText (now (name .entry)) s full shows volume price) (now (rest .entry)) (now (rest .exit)) r ⌝ }
 {
-    let a = lay_name(rest, name, qualifying::shows_temporary(s));
+    let a = symbol::lay_name(rest, name, qualifying::shows_temporary(s));
     let b = a + lay_volume(&mut rest[a..], columns, shows, s.network, s.unit, volume);
     b + lay_price(&mut rest[b..], full, price, &columns[9..31], value, whole)
 }

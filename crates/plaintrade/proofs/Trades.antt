@@ -25,32 +25,15 @@ use Rattle.rules.specs.Trade.{printsTrade, tradeFull, tradeShows, afterTrade}
 use Rattle.trade.proofs.Short.{Short, side-short}
 use Rattle.symbol.proofs.Text.{name-most}
 use Rattle.table.specs.Rows.{row, withRow, nameOf}
+use Rattle.table.proofs.Slots.{cutOut, slot}
 use Rattle.plainline.specs.declared.Plain.{Plain}
 use Rattle.plainline.specs.Plain.{noLetters, plainSide}
 use Rattle.plaintrade.specs.Plain.{tradeText, plainPrint, priceOf, Ready, ReadFrom}
 use Rattle.decision.specs.Value.{printsBy, fullBy, showsBy, afterBy}
 use Rattle.decision.proofs.Value as value
-use Rattle.plainprint.specs.Laid.{Laid}
 use Rattle.plainprint.specs.Print.{plainText, PriceColumns, Columned}
 use Rattle.plainprint.proofs.Digits.{whole-units}
 use Rattle.text.proofs.Parts.{take-within}
-
--- ---- the name at a place
-
--- as the code cuts it out
-abbrev cutOut : List ℕ → ℕ → List ℕ
-cutOut names i = take (i * 19 + 19 - i * 19) (drop (i * 19) names)
-
-module _ (names : List ℕ) (i : ℕ) where
-  slot : cutOut names i ≡ nameOf names i
-  unfolding nameOf
-  slot = let q : i * 19 + 19 - i * 19 ≡ 19 = omega arith in rw q
-
-  pub slot-length : i < 512 → length names ≡ 9728 → length (cutOut names i) ≡ 19
-  slot-length h l = rw (length-take, length-drop) (omega arith)
-
-  pub slot-laid : (temporary : Bool) (b a : List ℕ) (r : ℕ) → Laid (nameText temporary (cutOut names i)) b a r → Laid (nameText temporary (nameOf names i)) b a r
-  slot-laid temporary b a r w = rw (← slot) w
 
 -- ---- what `rules` says of a side without letters
 

@@ -8,26 +8,13 @@ ghost use mathlib.Core.Path.{_≡_};
 ghost use Prim.Native.Nat.{_-_, _≤_, _<_};
 ghost use lib.ListN.{length};
 ghost use Rattle.text.specs.Put.{Written};
-ghost use Rattle.rules.specs.Names.{nameText};
 ghost use Rattle.rules.specs.Price.{units};
 ghost use Rattle.rules.specs.Trade.{afterTrade};
 ghost use Rattle.table.specs.Rows.{row, withRow, nameOf};
 ghost use Rattle.plainline.specs.Plain.{plainSide};
-ghost use Rattle.plainprint.specs.Laid.{Laid};
 ghost use Rattle.plaintrade.specs.Plain.{plainPrint, tradeText, priceOf, Ready, ReadFrom};
 
 // ---- the print
-
-// The name at a place, with its temporary suffix or without.
-pub fn lay_name(buffer: &mut [u8], names: &[u8; 9728], place: usize, temporary: bool) -> usize
-    requires { ⌜ (place < 512) × (22 ≤ length (now buffer)) ⌝ }
-    ensures { λ r. ⌜ Laid (nameText temporary (nameOf (now (names .entry)) place)) (now (buffer .entry)) (now (buffer .exit)) r ⌝ }
-{
-    let all = &names[..];
-    let from = place * 19;
-    let to = from + 19;
-    plainprint::lay_name(buffer, &all[from..to], temporary)
-}
 
 // Where it prints. `value` is its price in units, and the line it was read from has the digits of volume and price.
 fn write_plain(

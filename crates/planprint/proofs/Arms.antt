@@ -14,105 +14,63 @@ use Rattle.rules.specs.declared.Refusal.{Refusal}
 use Rattle.rules.specs.declared.Settings.{Settings}
 use Rattle.rules.specs.declared.Security.{Security}
 use Rattle.table.specs.Rows.{nameOf}
-use Rattle.plainprint.specs.Laid.{Laid}
-use Rattle.plainprint.proofs.Layers.{laid-nothing}
+use Rattle.symbol.proofs.Text.{name-most}
 use Rattle.planner.specs.declared.TradePlan.{TradePlan}
 use Rattle.planner.specs.declared.CancelPlan.{CancelPlan}
 use Rattle.planner.specs.declared.CorrectionPlan.{CorrectionPlan}
 use Rattle.planner.specs.declared.Plan.{Plan}
 use Rattle.planner.specs.declared.Plan.the-variants.{Stop, Open, Enter, Change, Level, Step, Print, Cancel, Correct}
-use Rattle.planprint.specs.Print.{printedName, printText, cancelled, corrected, textOf, SoundPrint, SoundCancel, SoundCorrect, SoundPlan}
-
--- ---- the name that prints: of a trade's plan only
-
-module _ (names : List ℕ) (p : Plan) where
-  pub name-stop : (r : Refusal) (b : List ℕ) → p ≡ Stop r → Laid (printedName names p) b b 0
-  unfolding printedName
-  name-stop r b e = rw e (laid-nothing b)
-
-  pub name-open : (n : ℕ) (b : List ℕ) → p ≡ Open n → Laid (printedName names p) b b 0
-  unfolding printedName
-  name-open n b e = rw e (laid-nothing b)
-
-  pub name-enter : (i : ℕ) (s : Security) (b : List ℕ) → p ≡ Enter i s → Laid (printedName names p) b b 0
-  unfolding printedName
-  name-enter i s b e = rw e (laid-nothing b)
-
-  pub name-change : (m : Mode) (b : List ℕ) → p ≡ Change m → Laid (printedName names p) b b 0
-  unfolding printedName
-  name-change m b e = rw e (laid-nothing b)
-
-  pub name-level : (n : ℕ) (b : List ℕ) → p ≡ Level n → Laid (printedName names p) b b 0
-  unfolding printedName
-  name-level n b e = rw e (laid-nothing b)
-
-  pub name-step : (n : ℕ) (b : List ℕ) → p ≡ Step n → Laid (printedName names p) b b 0
-  unfolding printedName
-  name-step n b e = rw e (laid-nothing b)
-
-  pub name-print : (t : TradePlan) → p ≡ Print t → printedName names p ≡ nameText (t .temporary) (nameOf names (t .place))
-  unfolding printedName
-  name-print t e = rw e
-
-  pub name-cancel : (t : CancelPlan) → p ≡ Cancel t → printedName names p ≡ nameText false (nameOf names (t .place))
-  unfolding printedName
-  name-cancel t e = rw e
-
-  pub name-correct : (c : CorrectionPlan) → p ≡ Correct c → printedName names p ≡ nameText false (nameOf names (c .place))
-  unfolding printedName
-  name-correct c e = rw e
-
-pub ruleset printed-names = (name-stop, name-open, name-enter, name-change, name-level, name-step, name-print, name-cancel, name-correct)
+use Rattle.planprint.specs.Print.{printedName, printText, cancelled, corrected, textOf, printOf, SoundPrint, SoundCancel, SoundCorrect, SoundPlan}
 
 -- ---- the print
 
-module _ (st : Settings) (name : List ℕ) (p : Plan) where
-  pub text-stop : (r : Refusal) (b : List ℕ) → p ≡ Stop r → Written (textOf st name p) b b 0
-  unfolding textOf
+module _ (st : Settings) (names : List ℕ) (p : Plan) where
+  pub text-stop : (r : Refusal) (b : List ℕ) → p ≡ Stop r → Written (printOf st names p) b b 0
+  unfolding printOf textOf printedName
   text-stop r b e = rw e (written-nothing b)
 
-  pub length-stop : (r : Refusal) → p ≡ Stop r → 0 ≡ length (textOf st name p)
-  unfolding textOf
+  pub length-stop : (r : Refusal) → p ≡ Stop r → 0 ≡ length (printOf st names p)
+  unfolding printOf textOf printedName
   length-stop r e = rw e
 
-  pub text-open : (n : ℕ) (b : List ℕ) → p ≡ Open n → Written (textOf st name p) b b 0
-  unfolding textOf
+  pub text-open : (n : ℕ) (b : List ℕ) → p ≡ Open n → Written (printOf st names p) b b 0
+  unfolding printOf textOf printedName
   text-open n b e = rw e (written-nothing b)
 
-  pub length-open : (n : ℕ) → p ≡ Open n → 0 ≡ length (textOf st name p)
-  unfolding textOf
+  pub length-open : (n : ℕ) → p ≡ Open n → 0 ≡ length (printOf st names p)
+  unfolding printOf textOf printedName
   length-open n e = rw e
 
-  pub text-enter : (i : ℕ) (s : Security) (b : List ℕ) → p ≡ Enter i s → Written (textOf st name p) b b 0
-  unfolding textOf
+  pub text-enter : (i : ℕ) (s : Security) (b : List ℕ) → p ≡ Enter i s → Written (printOf st names p) b b 0
+  unfolding printOf textOf printedName
   text-enter i s b e = rw e (written-nothing b)
 
-  pub length-enter : (i : ℕ) (s : Security) → p ≡ Enter i s → 0 ≡ length (textOf st name p)
-  unfolding textOf
+  pub length-enter : (i : ℕ) (s : Security) → p ≡ Enter i s → 0 ≡ length (printOf st names p)
+  unfolding printOf textOf printedName
   length-enter i s e = rw e
 
-  pub text-change : (m : Mode) → p ≡ Change m → textOf st name p ≡ modeText m (st .minimum)
-  unfolding textOf
+  pub text-change : (m : Mode) → p ≡ Change m → printOf st names p ≡ modeText m (st .minimum)
+  unfolding printOf textOf printedName
   text-change m e = rw e
 
-  pub text-level : (n : ℕ) → p ≡ Level n → textOf st name p ≡ levelText n
-  unfolding textOf
+  pub text-level : (n : ℕ) → p ≡ Level n → printOf st names p ≡ levelText n
+  unfolding printOf textOf printedName
   text-level n e = rw e
 
-  pub text-step : (n : ℕ) → p ≡ Step n → textOf st name p ≡ stepText (st .mode) n
-  unfolding textOf
+  pub text-step : (n : ℕ) → p ≡ Step n → printOf st names p ≡ stepText (st .mode) n
+  unfolding printOf textOf printedName
   text-step n e = rw e
 
-  pub text-print : (t : TradePlan) → p ≡ Print t → textOf st name p ≡ printText name t
-  unfolding textOf
+  pub text-print : (t : TradePlan) → p ≡ Print t → printOf st names p ≡ printText (nameText (t .temporary) (nameOf names (t .place))) t
+  unfolding printOf textOf printedName
   text-print t e = rw e
 
-  pub text-cancel : (t : CancelPlan) → p ≡ Cancel t → textOf st name p ≡ cancelled name t
-  unfolding textOf
+  pub text-cancel : (t : CancelPlan) → p ≡ Cancel t → printOf st names p ≡ cancelled (nameText false (nameOf names (t .place))) t
+  unfolding printOf textOf printedName
   text-cancel t e = rw e
 
-  pub text-correct : (c : CorrectionPlan) → p ≡ Correct c → textOf st name p ≡ corrected name c
-  unfolding textOf
+  pub text-correct : (c : CorrectionPlan) → p ≡ Correct c → printOf st names p ≡ corrected (nameText false (nameOf names (c .place))) c
+  unfolding printOf textOf printedName
   text-correct c e = rw e
 
 pub ruleset texts = (text-change, text-level, text-step, text-print, text-cancel, text-correct)
@@ -153,3 +111,17 @@ module _ (line : List ℕ) (p : Plan) (sound : SoundPlan line p) where
 
   pub line-room : (i : ℕ) (s : Security) → p ≡ Enter i s → 24 ≤ length line
   line-room i s e = omega (arith, line-enter i s e)
+
+-- ---- the name as it prints
+
+pub printed-short : (names : List ℕ) (p : Plan) → length (printedName names p) ≤ 22
+unfolding printedName
+printed-short names (Stop r) = omega arith
+printed-short names (Open n) = omega arith
+printed-short names (Enter i s) = omega arith
+printed-short names (Change m) = omega arith
+printed-short names (Level n) = omega arith
+printed-short names (Step n) = omega arith
+printed-short names (Print t) = name-most (t .temporary) (nameOf names (t .place))
+printed-short names (Cancel t) = name-most false (nameOf names (t .place))
+printed-short names (Correct c) = name-most false (nameOf names (c .place))

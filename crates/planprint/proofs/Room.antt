@@ -9,15 +9,19 @@ use lib.ListN.{length}
 use borrow.Author.Tests.{lt-ltb, le-ltb, ltb-false}
 use Rattle.text.proofs.Tests.{pick-yes, pick-no}
 use Rattle.text.specs.Pick.{pick, opt}
+use Rattle.text.specs.Put.{Written}
+use Rattle.table.specs.Rows.{nameOf}
 use Rattle.rules.specs.Side.{sideText}
-use Rattle.rules.specs.Correction.{correctionText}
+use Rattle.rules.specs.Names.{nameText}
+use Rattle.rules.specs.Correction.{correctionText, cancelText, cancelOpening, errorOpening}
 use Rattle.rules.specs.declared.Settings.{Settings}
 use Rattle.rules.specs.declared.Refusal.the-variants.{Room}
 use Rattle.planner.specs.declared.TradePlan.{TradePlan}
+use Rattle.planner.specs.declared.CancelPlan.{CancelPlan}
 use Rattle.planner.specs.declared.CorrectionPlan.{CorrectionPlan}
 use Rattle.planner.specs.declared.Plan.{Plan}
 use Rattle.planner.specs.declared.Plan.the-variants.{Stop}
-use Rattle.planprint.specs.Print.{printedName, printText, corrected, textOf, fittedOf, printOf, SoundPlan}
+use Rattle.planprint.specs.Print.{printedName, printText, cancelled, corrected, textOf, fittedOf, printOf, SoundPlan}
 
 -- ---- a trade's print
 
@@ -30,7 +34,21 @@ module _ (name : List ℕ) (t : TradePlan) where
   unfolding printText opt
   some-print h = rw h
 
-pub ruleset prints = (no-print, some-print)
+-- with the columns of its name as a callee answered them
+module _ (names : List ℕ) (t : TradePlan) (name : List ℕ) (e : name ≡ nameOf names (t .place)) (h : t .prints ≡ true) where
+  pub print-length : (r : ℕ) → r ≡ length (sideText (nameText (t .temporary) name) (t .network) (t .unit) (t .full) (t .shows) (t .side)) → r ≡ length (printText (nameText (t .temporary) (nameOf names (t .place))) t)
+  unfolding printText opt
+  print-length r l = rw (h, ← e) l
+
+  pub print-room : (m : ℕ) → length (printText (nameText (t .temporary) (nameOf names (t .place))) t) ≤ m → length (sideText (nameText (t .temporary) name) (t .network) (t .unit) (t .full) (t .shows) (t .side)) ≤ m
+  unfolding printText opt
+  print-room m l = rw e (rw h at l)
+
+  pub print-written : (b a : List ℕ) (r : ℕ) → Written (sideText (nameText (t .temporary) name) (t .network) (t .unit) (t .full) (t .shows) (t .side)) b a r → Written (printText (nameText (t .temporary) (nameOf names (t .place))) t) b a r
+  unfolding printText opt
+  print-written b a r w = rw (h, ← e) w
+
+pub ruleset prints = (no-print, print-length, print-room, print-written)
 
 -- ---- a correction's print, a cancel's
 
@@ -43,7 +61,35 @@ module _ (name : List ℕ) (c : CorrectionPlan) where
   unfolding corrected opt
   some-correction h = rw h
 
-pub ruleset corrections = (no-correction, some-correction)
+module _ (names : List ℕ) (c : CorrectionPlan) (name : List ℕ) (e : name ≡ nameOf names (c .place)) (h : c .prints ≡ true) where
+  pub correction-length : (r : ℕ) → r ≡ length (correctionText (nameText false name) (c .network) (c .unit) (c .full) (c .shows) (c .original) (c .correcting)) → r ≡ length (corrected (nameText false (nameOf names (c .place))) c)
+  unfolding corrected opt
+  correction-length r l = rw (h, ← e) l
+
+  pub correction-room : (m : ℕ) → length (corrected (nameText false (nameOf names (c .place))) c) ≤ m → length (correctionText (nameText false name) (c .network) (c .unit) (c .full) (c .shows) (c .original) (c .correcting)) ≤ m
+  unfolding corrected opt
+  correction-room m l = rw e (rw h at l)
+
+  pub correction-written : (b a : List ℕ) (r : ℕ) → Written (correctionText (nameText false name) (c .network) (c .unit) (c .full) (c .shows) (c .original) (c .correcting)) b a r → Written (corrected (nameText false (nameOf names (c .place))) c) b a r
+  unfolding corrected opt
+  correction-written b a r w = rw (h, ← e) w
+
+pub ruleset corrections = (no-correction, correction-length, correction-room, correction-written)
+
+module _ (names : List ℕ) (t : CancelPlan) (name : List ℕ) (e : name ≡ nameOf names (t .place)) where
+  pub cancel-length : (r : ℕ) → r ≡ length (cancelText (pick (t .error) errorOpening cancelOpening) (nameText false name) (t .network) (t .unit) (t .full) (t .shows) (t .side)) → r ≡ length (cancelled (nameText false (nameOf names (t .place))) t)
+  unfolding cancelled
+  cancel-length r l = rw (← e) l
+
+  pub cancel-room : (m : ℕ) → length (cancelled (nameText false (nameOf names (t .place))) t) ≤ m → length (cancelText (pick (t .error) errorOpening cancelOpening) (nameText false name) (t .network) (t .unit) (t .full) (t .shows) (t .side)) ≤ m
+  unfolding cancelled
+  cancel-room m l = rw e l
+
+  pub cancel-written : (b a : List ℕ) (r : ℕ) → Written (cancelText (pick (t .error) errorOpening cancelOpening) (nameText false name) (t .network) (t .unit) (t .full) (t .shows) (t .side)) b a r → Written (cancelled (nameText false (nameOf names (t .place))) t) b a r
+  unfolding cancelled
+  cancel-written b a r w = rw (← e) w
+
+pub ruleset cancels = (cancel-length, cancel-room, cancel-written)
 
 -- ---- room for it
 
@@ -95,3 +141,6 @@ fitted-print st names p room = fitted-by (λ x. textOf st (printedName names p) 
 
 pub plan-print : (st : Settings) (names : List ℕ) (p q : Plan) (room : ℕ) → q ≡ fittedOf st (printedName names p) p room → textOf st (printedName names p) q ≡ printOf st names q
 plan-print st names p q room e = rw e (fitted-print st names p room)
+
+pub print-fits : (st : Settings) (names : List ℕ) (p q : Plan) (room : ℕ) → q ≡ fittedOf st (printedName names p) p room → length (printOf st names q) ≤ room
+print-fits st names p q room e = rw (← plan-print st names p q room e) (fitted-room st (printedName names p) [] p q room e)

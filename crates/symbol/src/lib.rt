@@ -2,15 +2,16 @@
 // nineteen columns 6 to 24 of an S line: root 6, suffix 7, temporary suffix 4, appendage 2.
 ghost use mathlib.Core.Path.{_≡_};
 ghost use mathlib.Core.Bool.{true, false};
-ghost use mathlib.Core.List.{_++_};
 ghost use Prim.Native.Nat.{_+_, _≤_};
+ghost use lib.Dec.{eqb};
 ghost use lib.ListN.{length};
-ghost use Rattle.text.specs.Bytes.{bytes};
-ghost use Rattle.text.specs.Pick.{opt, same};
+ghost use Rattle.text.specs.Pick.{pick, opt, same};
 ghost use Rattle.text.specs.Put.{Written};
 ghost use Rattle.rules.specs.Tape.{isRaised};
 ghost use Rattle.rules.specs.Columns.{word};
 ghost use Rattle.rules.specs.Names.{partText, nameText, hasTemporary, sameName};
+ghost use Rattle.words.specs.Word.{WordOf};
+ghost use Rattle.symbol.specs.Laid.{Laid, dotText};
 
 // ---- a name's text
 
@@ -66,57 +67,96 @@ pub fn name_length(name: &[u8], temporary: bool) -> usize
     root + suffix + shown + appendage
 }
 
-fn write_word(rest: &mut [u8], field: &[u8]) -> usize
-    requires { ⌜ length (word (now field)) ≤ length (now rest) ⌝ }
-    ensures { λ r. ⌜ Written (word (now (field .entry))) (now (rest .entry)) (now (rest .exit)) r ⌝ }
+// ---- its writer: each part is laid by columns of fixed width, over what the one before it left behind its text
+
+// The length of the text at a field's left, up to the first blank: every column is looked at, the last first.
+fn word_size(field: &[u8]) -> usize
+    ensures { λ r. ⌜ WordOf (now (field .entry)) r ⌝ }
 {
-    let n = words::word_length(field);
-    text::write_bytes(rest, &field[..n])
+    let mut n = field.len();
+    let mut i = field.len();
+    while 0 < i {
+        i -= 1;
+        if field[i] == 32 {
+            n = i;
+        }
+    }
+    n
 }
 
-fn write_dotted(rest: &mut [u8], text: &[u8]) -> usize
-    requires { ⌜ length (bytes "." ++ now text) ≤ length (now rest) ⌝ }
-    ensures { λ r. ⌜ Written (bytes "." ++ now (text .entry)) (now (rest .entry)) (now (rest .exit)) r ⌝ }
+// 0 where two bytes are the same, 1 otherwise.
+fn unlike(a: u8, b: u8) -> usize
+    ensures { λ r. ⌜ (r ≡ pick (eqb a b) 0 1) × (r ≤ 1) ⌝ }
 {
-    let at = text::write_bytes(rest, b".");
-    at + text::write_bytes(&mut rest[at..], text)
-}
-
-fn write_part(rest: &mut [u8], field: &[u8]) -> usize
-    requires { ⌜ length (partText (word (now field))) ≤ length (now rest) ⌝ }
-    ensures { λ r. ⌜ Written (partText (word (now (field .entry)))) (now (rest .entry)) (now (rest .exit)) r ⌝ }
-{
-    let n = words::word_length(field);
-    if n == 0 {
+    if a == b {
         return 0;
     }
-    if is_raised(field[0]) {
-        return text::write_bytes(rest, &field[..n]);
-    }
-    write_dotted(rest, &field[..n])
+    1
 }
 
-fn write_shown(rest: &mut [u8], field: &[u8], shown: bool) -> usize
-    requires { ⌜ length (opt shown (partText (word (now field)))) ≤ length (now rest) ⌝ }
-    ensures { λ r. ⌜ Written (opt shown (partText (word (now (field .entry))))) (now (rest .entry)) (now (rest .exit)) r ⌝ }
+// 1 where a part that begins with this byte has a letter dot before it: not a blank, not a raised letter.
+fn dot_size(b: u8) -> usize
+    ensures { λ r. ⌜ (r ≡ length (dotText b)) × (r ≤ 1) ⌝ }
 {
-    if shown {
-        return write_part(rest, field);
+    unlike(b, 32) * unlike(b, b'p') * unlike(b, b'r') * unlike(b, b'w')
+}
+
+// Every column is laid; the text is their front.
+fn lay_word(rest: &mut [u8], field: &[u8]) -> usize
+    requires { ⌜ length (now field) ≤ length (now rest) ⌝ }
+    ensures { λ r. ⌜ Laid (word (now (field .entry))) (now (rest .entry)) (now (rest .exit)) r × (r ≤ length (now (field .entry))) ⌝ }
+{
+    text::write_bytes(rest, field);
+    word_size(field)
+}
+
+// A part after the root.
+fn lay_part(rest: &mut [u8], field: &[u8]) -> usize
+    requires { ⌜ (1 ≤ length (now field)) × (length (now field) + 1 ≤ length (now rest)) ⌝ }
+    ensures { λ r. ⌜ Laid (partText (word (now (field .entry)))) (now (rest .entry)) (now (rest .exit)) r × (r ≤ length (now (field .entry)) + 1) ⌝ }
+{
+    rest[0] = b'.';
+    let k = dot_size(field[0]);
+    k + lay_word(&mut rest[k..], field)
+}
+
+// A part that is blank for most securities, or not shown.
+fn lay_shown(rest: &mut [u8], field: &[u8], shown: bool) -> usize
+    requires { ⌜ (1 ≤ length (now field)) × (length (now field) + 1 ≤ length (now rest)) ⌝ }
+    ensures { λ r. ⌜ Laid (opt shown (partText (word (now (field .entry))))) (now (rest .entry)) (now (rest .exit)) r × (r ≤ length (now (field .entry)) + 1) ⌝ }
+{
+    if !shown {
+        return 0;
     }
-    0
+    if field[0] == 32 {
+        return 0;
+    }
+    lay_part(rest, field)
 }
 
 // Root, suffix, temporary suffix where it is shown, appendage.
+pub fn lay_name(rest: &mut [u8], name: &[u8], temporary: bool) -> usize
+    requires { ⌜ (length (now name) ≡ 19) × (22 ≤ length (now rest)) ⌝ }
+    ensures { λ r. ⌜ Laid (nameText temporary (now (name .entry))) (now (rest .entry)) (now (rest .exit)) r × (r ≤ 22) ⌝ }
+{
+    let a = lay_word(rest, &name[..6]);
+    let b = a + lay_part(&mut rest[a..], &name[6..13]);
+    let c = b + lay_shown(&mut rest[b..], &name[13..17], temporary);
+    c + lay_shown(&mut rest[c..], &name[17..19], true)
+}
+
+// The name, laid in bytes of its own first; the bytes of the tape behind it keep their values.
 pub fn write_name(rest: &mut [u8], name: &[u8], temporary: bool) -> usize
     requires { ⌜ length (now name) ≡ 19 ⌝ }
     requires { ⌜ length (nameText temporary (now name)) ≤ length (now rest) ⌝ }
     ensures { λ r. ⌜ Written (nameText temporary (now (name .entry))) (now (rest .entry)) (now (rest .exit)) r ⌝ }
 {
-    let suffix = write_word(rest, &name[..6]);
-    let shown = suffix + write_part(&mut rest[suffix..], &name[6..13]);
-    let appendage = shown + write_shown(&mut rest[shown..], &name[13..17], temporary);
-    appendage + write_part(&mut rest[appendage..], &name[17..19])
+    let mut buffer = [0u8; 22];
+    let n = lay_name(&mut buffer, name, temporary);
+    text::write_bytes(rest, &buffer[..n])
 }
+
+// ---- which are the same
 
 // Two names' texts, each with its temporary suffix shown or not.
 fn same_shown(a: &[u8], shown: bool, b: &[u8], other: bool) -> bool

@@ -73,3 +73,14 @@ pub fn clear_names(names: &mut [u8; 9728])
 {
     *names = [0u8; 9728];
 }
+
+// The columns of the name at a place, a part of the lent table.
+pub fn name_at<'a>(names: &'a [u8; 9728], place: usize) -> &'a [u8]
+    requires { ⌜ place < 512 ⌝ }
+    ensures { λ r. ⌜ (now r ≡ nameOf (now (names .entry)) place) × (length (now r) ≡ 19) ⌝ }
+{
+    let all = &names[..];
+    let from = place * 19;
+    let to = from + 19;
+    &all[from..to]
+}

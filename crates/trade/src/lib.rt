@@ -7,6 +7,7 @@ ghost use Prim.Native.Nat.{_+_, _≤_};
 ghost use lib.ListN.{length};
 ghost use Rattle.text.specs.Pick.{opt};
 ghost use Rattle.text.specs.Put.{Written};
+ghost use Rattle.rules.specs.Names.{nameText};
 ghost use Rattle.rules.specs.Volume.{volumeText};
 ghost use Rattle.rules.specs.Side.{headText, tailText, sideText};
 
@@ -32,17 +33,19 @@ fn write_shown_volume(rest: &mut [u8], shows: bool, network: u64, unit: u64, v: 
 }
 
 // The name and the conditions after it.
-fn head_length(name: &[u8], x: Letters) -> usize
-    ensures { λ r. ⌜ (r ≡ length (headText (now (name .entry)) x)) × (r ≤ length (now (name .entry)) + 20) ⌝ }
+fn head_length(name: &[u8], temporary: bool, x: Letters) -> usize
+    requires { ⌜ length (now name) ≡ 19 ⌝ }
+    ensures { λ r. ⌜ (r ≡ length (headText (nameText temporary (now (name .entry))) x)) × (r ≤ 42) ⌝ }
 {
-    name.len() + conditions::after_name_length(x)
+    let n = symbol::name_length(name, temporary);
+    n + conditions::after_name_length(x)
 }
 
-fn write_head(rest: &mut [u8], name: &[u8], x: Letters) -> usize
-    requires { ⌜ length (headText (now name) x) ≤ length (now rest) ⌝ }
-    ensures { λ r. ⌜ Written (headText (now (name .entry)) x) (now (rest .entry)) (now (rest .exit)) r ⌝ }
+fn write_head(rest: &mut [u8], name: &[u8], temporary: bool, x: Letters) -> usize
+    requires { ⌜ (length (now name) ≡ 19) × (length (headText (nameText temporary (now name)) x) ≤ length (now rest)) ⌝ }
+    ensures { λ r. ⌜ Written (headText (nameText temporary (now (name .entry))) x) (now (rest .entry)) (now (rest .exit)) r ⌝ }
 {
-    let at = text::write_bytes(rest, name);
+    let at = symbol::write_name(rest, name, temporary);
     at + conditions::write_after_name(&mut rest[at..], x)
 }
 
@@ -65,14 +68,22 @@ fn write_tail(rest: &mut [u8], x: Side) -> usize
     at + ending::write_at_end(&mut rest[at..], x)
 }
 
-// A whole side: name, volume, price, conditions.
-pub fn side_length(name: &[u8], network: u64, unit: u64, full: bool, shows: bool, x: Side) -> usize
-    requires { ⌜ (1 ≤ unit) × (x .price .d ≤ 8) × (x .previous .d ≤ 8) ⌝ }
-    ensures { λ r. ⌜ (r ≡ length (sideText (now (name .entry)) network unit full shows x)) × (r ≤ length (now (name .entry)) + 161) ⌝ }
+// A whole side: name, volume, price, conditions. The name is the columns of one, its temporary suffix shown or not.
+pub fn side_length(
+    name: &[u8],
+    temporary: bool,
+    network: u64,
+    unit: u64,
+    full: bool,
+    shows: bool,
+    x: Side,
+) -> usize
+    requires { ⌜ (length (now name) ≡ 19) × (1 ≤ unit) × (x .price .d ≤ 8) × (x .previous .d ≤ 8) ⌝ }
+    ensures { λ r. ⌜ (r ≡ length (sideText (nameText temporary (now (name .entry))) network unit full shows x)) × (r ≤ 183) ⌝ }
 {
     let letters = x.letters;
     let price = x.price;
-    let a = head_length(name, letters);
+    let a = head_length(name, temporary, letters);
     let b = shown_volume_length(shows, network, unit, x.volume);
     let c = prices::price_length(full, price);
     a + b + c + tail_length(x)
@@ -81,18 +92,19 @@ pub fn side_length(name: &[u8], network: u64, unit: u64, full: bool, shows: bool
 pub fn write_side(
     rest: &mut [u8],
     name: &[u8],
+    temporary: bool,
     network: u64,
     unit: u64,
     full: bool,
     shows: bool,
     x: Side,
 ) -> usize
-    requires { ⌜ (1 ≤ unit) × (x .price .d ≤ 8) × (x .previous .d ≤ 8) × (length (sideText (now name) network unit full shows x) ≤ length (now rest)) ⌝ }
-    ensures { λ r. ⌜ Written (sideText (now (name .entry)) network unit full shows x) (now (rest .entry)) (now (rest .exit)) r ⌝ }
+    requires { ⌜ (length (now name) ≡ 19) × (1 ≤ unit) × (x .price .d ≤ 8) × (x .previous .d ≤ 8) × (length (sideText (nameText temporary (now name)) network unit full shows x) ≤ length (now rest)) ⌝ }
+    ensures { λ r. ⌜ Written (sideText (nameText temporary (now (name .entry))) network unit full shows x) (now (rest .entry)) (now (rest .exit)) r ⌝ }
 {
     let letters = x.letters;
     let price = x.price;
-    let at = write_head(rest, name, letters);
+    let at = write_head(rest, name, temporary, letters);
     let at2 = at + write_shown_volume(&mut rest[at..], shows, network, unit, x.volume);
     let at3 = at2 + prices::write_price(&mut rest[at2..], full, price);
     at3 + write_tail(&mut rest[at3..], x)

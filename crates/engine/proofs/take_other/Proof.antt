@@ -1,37 +1,18 @@
 use Rattle.planprint.proofs.Sound.{sound-asked}
-use Rattle.engine.proofs.Steps.{front-short, taken}
-use Rattle.planprint.proofs.Room.{fitted-sound, fitted-room}
+use Rattle.engine.proofs.Steps.{taken}
+use Rattle.planprint.proofs.Room.{fitted-sound, print-fits}
 use borrow.Author.Needs.{needs}
-use Rattle.plainprint.proofs.Layers.{cut-length}
 use Rattle.engine.proofs.take_other.Statement.{statement}
 use Rattle.engine.proofs.take_other.Tie as tie
 
 plan-line-requires : tie.Need-plan-line-requires
 plan-line-requires c κs = search needs
 
-slice-aggregate-lay-printed-name : tie.Need-slice-aggregate-lay-printed-name
-slice-aggregate-lay-printed-name c = search needs
-
-lay-printed-name-requires : tie.Need-lay-printed-name-requires
-lay-printed-name-requires c κs = (search sound-asked, search needs)
-
-array-share-prefix-buffer : tie.Need-array-share-prefix-buffer
-array-share-prefix-buffer c = search needs
-
-slice-aggregate-fitted : tie.Need-slice-aggregate-fitted
-slice-aggregate-fitted c = search cut-length
-
 fitted-requires : tie.Need-fitted-requires
-fitted-requires c κs = (search sound-asked, search front-short)
-
-array-share-prefix-buffer-2 : tie.Need-array-share-prefix-buffer-2
-array-share-prefix-buffer-2 c = search needs
-
-slice-aggregate-write-text : tie.Need-slice-aggregate-write-text
-slice-aggregate-write-text c = search cut-length
+fitted-requires c κs = search sound-asked
 
 write-text-requires : tie.Need-write-text-requires
-write-text-requires c κs = (search (fitted-sound, sound-asked), search fitted-room)
+write-text-requires c κs = (search (fitted-sound, sound-asked), search print-fits)
 
 update-table-requires : tie.Need-update-table-requires
 update-table-requires c κs = search (fitted-sound, sound-asked)
@@ -56,13 +37,7 @@ take-other-spec =
     tie.close
     (tie.spec
     plan-line-requires
-    slice-aggregate-lay-printed-name
-    lay-printed-name-requires
-    array-share-prefix-buffer
-    slice-aggregate-fitted
     fitted-requires
-    array-share-prefix-buffer-2
-    slice-aggregate-write-text
     write-text-requires
     update-table-requires
     update-names-requires

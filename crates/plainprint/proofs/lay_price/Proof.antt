@@ -1,4 +1,4 @@
-use Rattle.plainprint.proofs.Layers.{laid-written}
+use Rattle.symbol.proofs.Layers.{laid-written}
 use Rattle.plainprint.proofs.Prices.{whole-small, price-room, laid-even, laid-fraction}
 use borrow.Author.Needs.{needs}
 use Rattle.plainprint.proofs.lay_price.Statement.{statement}

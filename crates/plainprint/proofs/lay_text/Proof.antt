@@ -1,8 +1,8 @@
 use native.Mathlib.Omega.{arith}
 use Rattle.trade.proofs.Short.{volume-most}
 use Rattle.plainprint.specs.Print.{plainText}
-use Rattle.plainprint.proofs.Layers.{laid-then, laid-room}
-use Rattle.plainprint.proofs.Names.{told-name}
+use Rattle.symbol.proofs.Layers.{laid-then, laid-room}
+use Rattle.symbol.proofs.Laying.{told-name}
 use borrow.Author.Needs.{needs}
 use Rattle.plainprint.proofs.lay_text.Statement.{statement}
 use Rattle.plainprint.proofs.lay_text.Tie as tie

@@ -1,6 +1,6 @@
 use native.Mathlib.Omega.{arith}
-use Rattle.plainprint.proofs.Layers.{laid-written}
-use Rattle.plainprint.proofs.Names.{laid-hidden, laid-shown}
+use Rattle.symbol.proofs.Layers.{laid-written}
+use Rattle.symbol.proofs.Laying.{laid-hidden, laid-shown}
 use Rattle.plainprint.proofs.Volumes.{volume-room}
 use borrow.Author.Needs.{needs}
 use Rattle.plainprint.proofs.lay_volume.Statement.{statement}

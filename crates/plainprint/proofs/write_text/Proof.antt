@@ -1,4 +1,4 @@
-use Rattle.plainprint.proofs.Layers.{cut-length, cut-room, cut-written}
+use Rattle.symbol.proofs.Layers.{cut-length, cut-room, cut-written}
 use borrow.Author.Needs.{needs}
 use Rattle.plainprint.proofs.write_text.Statement.{statement}
 use Rattle.plainprint.proofs.write_text.Tie as tie

@@ -1,6 +1,7 @@
 use Prim.Native.Nat.{_-_}
 use native.Mathlib.Omega.{arith}
-use Rattle.plaintrade.proofs.Trades.{slot-length, columned, plain-room, unprinted, printed}
+use Rattle.table.proofs.Slots.{slot-length}
+use Rattle.plaintrade.proofs.Trades.{columned, plain-room, unprinted, printed}
 use borrow.Author.Needs.{needs}
 use Rattle.plaintrade.proofs.write_plain.Statement.{statement}
 use Rattle.plaintrade.proofs.write_plain.Tie as tie

@@ -4,6 +4,9 @@ use borrow.Author.Needs.{needs}
 use Rattle.planprint.proofs.correction_length.Statement.{statement}
 use Rattle.planprint.proofs.correction_length.Tie as tie
 
+name-at-requires : tie.Need-name-at-requires
+name-at-requires c κs = search needs
+
 correction-length-requires : tie.Need-correction-length-requires
 correction-length-requires c κs = search needs
 
@@ -14,4 +17,5 @@ returns-2 : tie.Need-returns-2
 returns-2 c = search (length-named, corrections)
 
 pub correction-length-spec : {M : Type 1} → statement M
-correction-length-spec = tie.close (tie.spec correction-length-requires returns returns-2)
+correction-length-spec =
+    tie.close (tie.spec name-at-requires correction-length-requires returns returns-2)

@@ -4,6 +4,9 @@ use borrow.Author.Needs.{needs}
 use Rattle.planprint.proofs.print_length.Statement.{statement}
 use Rattle.planprint.proofs.print_length.Tie as tie
 
+name-at-requires : tie.Need-name-at-requires
+name-at-requires c κs = search needs
+
 side-length-requires : tie.Need-side-length-requires
 side-length-requires c κs = search needs
 
@@ -14,4 +17,4 @@ returns-2 : tie.Need-returns-2
 returns-2 c = search (length-named, prints)
 
 pub print-length-spec : {M : Type 1} → statement M
-print-length-spec = tie.close (tie.spec side-length-requires returns returns-2)
+print-length-spec = tie.close (tie.spec name-at-requires side-length-requires returns returns-2)

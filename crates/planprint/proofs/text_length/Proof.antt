@@ -47,7 +47,7 @@ enum-known-p-6 : tie.Need-enum-known-p-6
 enum-known-p-6 c = search needs
 
 correction-length-requires : tie.Need-correction-length-requires
-correction-length-requires c κs = (search sound-correct, search needs)
+correction-length-requires c κs = search sound-correct
 
 returns : tie.Need-returns
 returns c = search (quiet, length-named, texts)

@@ -1,18 +1,19 @@
-use Rattle.planprint.specs.Print.{cancelled}
+use Rattle.planprint.proofs.Room.{cancels}
 use borrow.Author.Needs.{needs}
 use Rattle.planprint.proofs.write_cancel.Statement.{statement}
 use Rattle.planprint.proofs.write_cancel.Tie as tie
 
+name-at-requires : tie.Need-name-at-requires
+name-at-requires c κs = search needs
+
 write-cancel-requires : tie.Need-write-cancel-requires
-unfolding cancelled
-write-cancel-requires c κs = search needs
+write-cancel-requires c κs = (search needs, search needs, search needs, search needs, search cancels)
 
 same-length : tie.Need-same-length
 same-length c = search needs
 
 returns : tie.Need-returns
-unfolding cancelled
-returns c = search needs
+returns c = search cancels
 
 pub write-cancel-spec : {M : Type 1} → statement M
-write-cancel-spec = tie.close (tie.spec write-cancel-requires same-length returns)
+write-cancel-spec = tie.close (tie.spec name-at-requires write-cancel-requires same-length returns)

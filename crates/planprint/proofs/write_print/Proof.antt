@@ -1,11 +1,14 @@
-use Rattle.text.proofs.Writing.{named, fits, written-nothing}
+use Rattle.text.proofs.Writing.{named, written-nothing}
 use Rattle.planprint.proofs.Room.{prints}
 use borrow.Author.Needs.{needs}
 use Rattle.planprint.proofs.write_print.Statement.{statement}
 use Rattle.planprint.proofs.write_print.Tie as tie
 
+name-at-requires : tie.Need-name-at-requires
+name-at-requires c κs = search needs
+
 write-side-requires : tie.Need-write-side-requires
-write-side-requires c κs = search (fits, prints)
+write-side-requires c κs = (search needs, search needs, search needs, search needs, search prints)
 
 same-length : tie.Need-same-length
 same-length c = search needs
@@ -17,4 +20,5 @@ returns-2 : tie.Need-returns-2
 returns-2 c = search (named, prints, written-nothing)
 
 pub write-print-spec : {M : Type 1} → statement M
-write-print-spec = tie.close (tie.spec write-side-requires same-length returns returns-2)
+write-print-spec =
+    tie.close (tie.spec name-at-requires write-side-requires same-length returns returns-2)

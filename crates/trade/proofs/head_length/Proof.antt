@@ -4,6 +4,9 @@ use borrow.Author.Needs.{needs}
 use Rattle.trade.proofs.head_length.Statement.{statement}
 use Rattle.trade.proofs.head_length.Tie as tie
 
+name-length-requires : tie.Need-name-length-requires
+name-length-requires c κs = search needs
+
 after-name-length-requires : tie.Need-after-name-length-requires
 after-name-length-requires c κs = search needs
 
@@ -15,4 +18,4 @@ unfolding headText
 returns c = (search length-joined, search needs)
 
 pub head-length-spec : {M : Type 1} → statement M
-head-length-spec = tie.close (tie.spec after-name-length-requires add-result returns)
+head-length-spec = tie.close (tie.spec name-length-requires after-name-length-requires add-result returns)

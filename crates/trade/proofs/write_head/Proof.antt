@@ -4,9 +4,9 @@ use borrow.Author.Needs.{needs}
 use Rattle.trade.proofs.write_head.Statement.{statement}
 use Rattle.trade.proofs.write_head.Tie as tie
 
-write-bytes-requires : tie.Need-write-bytes-requires
+write-name-requires : tie.Need-write-name-requires
 unfolding headText
-write-bytes-requires c κs = search rooms depth 9
+write-name-requires c κs = (search needs, search rooms depth 9)
 
 sub-write-after-name : tie.Need-sub-write-after-name
 sub-write-after-name c = search needs
@@ -35,7 +35,7 @@ pub write-head-spec : {M : Type 1} → statement M
 write-head-spec =
     tie.close
     (tie.spec
-    write-bytes-requires
+    write-name-requires
     sub-write-after-name
     part-write-after-name-start
     part-write-after-name-end

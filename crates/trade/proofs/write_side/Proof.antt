@@ -6,7 +6,7 @@ use Rattle.trade.proofs.write_side.Tie as tie
 
 write-head-requires : tie.Need-write-head-requires
 unfolding sideText
-write-head-requires c κs = search rooms depth 9
+write-head-requires c κs = (search needs, search rooms depth 9)
 
 sub-write-shown-volume : tie.Need-sub-write-shown-volume
 sub-write-shown-volume c = search needs

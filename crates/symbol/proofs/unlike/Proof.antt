@@ -1,7 +1,7 @@
 use native.Mathlib.Omega.{arith}
 use Rattle.text.proofs.Tests.{picks}
-use Rattle.plainprint.proofs.unlike.Statement.{statement}
-use Rattle.plainprint.proofs.unlike.Tie as tie
+use Rattle.symbol.proofs.unlike.Statement.{statement}
+use Rattle.symbol.proofs.unlike.Tie as tie
 
 returns : tie.Need-returns
 returns c = (search picks, omega arith)

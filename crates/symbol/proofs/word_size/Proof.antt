@@ -4,9 +4,9 @@ use native.Mathlib.Omega.{arith}
 use Prim.Native.Nat.{_-_, _≤_}
 use lib.ListN.{length, drop}
 use Rattle.words.specs.Word.{WordOf}
-use Rattle.plainprint.proofs.Names.{from-end, from-blank, from-byte, from-start}
-use Rattle.plainprint.proofs.word_size.Statement.{statement}
-use Rattle.plainprint.proofs.word_size.Tie as tie
+use Rattle.symbol.proofs.Laying.{from-end, from-blank, from-byte, from-start}
+use Rattle.symbol.proofs.word_size.Statement.{statement}
+use Rattle.symbol.proofs.word_size.Tie as tie
 
 abbrev Inv-loop : tie.InvT-loop
 Inv-loop field n₀ i₀ n i = (i ≤ n) × (n ≤ length field) × WordOf (drop i field) (n - i)

@@ -9,7 +9,7 @@ use lib.Seq.{take-take, take-at, take-append-add, take-suc-set, length-take-le, 
 use Rattle.text.specs.Put.{Written}
 use Rattle.text.proofs.Writing.{length-put}
 use Rattle.text.proofs.Parts as parts
-use Rattle.plainprint.specs.Laid.{Laid}
+use Rattle.symbol.specs.Laid.{Laid}
 
 pub laid-written : {t b a : List ℕ} {n : ℕ} → Written t b a n → Laid t b a n
 laid-written {t} {b} {a} {n} w = record {

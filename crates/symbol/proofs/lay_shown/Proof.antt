@@ -1,8 +1,8 @@
 use native.Mathlib.Omega.{arith}
-use Rattle.plainprint.proofs.Names.{laid-hidden, laid-shown, laid-blank}
+use Rattle.symbol.proofs.Laying.{laid-hidden, laid-shown, laid-blank}
 use borrow.Author.Needs.{needs}
-use Rattle.plainprint.proofs.lay_shown.Statement.{statement}
-use Rattle.plainprint.proofs.lay_shown.Tie as tie
+use Rattle.symbol.proofs.lay_shown.Statement.{statement}
+use Rattle.symbol.proofs.lay_shown.Tie as tie
 
 returns : tie.Need-returns
 returns c = (search laid-hidden, omega arith)

@@ -22,9 +22,9 @@ use Rattle.rules.specs.Day.{showsTemporary}
 use Rattle.words.specs.Word.{WordOf}
 use Rattle.rules.proofs.Fields.{word-blank, word-byte}
 use Rattle.words.proofs.Fields.{word-nothing}
-use Rattle.plainprint.specs.Laid.{Laid}
-use Rattle.plainprint.specs.Print.{dotText}
-use Rattle.plainprint.proofs.Layers.{laid-written, laid-nothing, laid-named, laid-front, laid-then}
+use Rattle.symbol.specs.Laid.{Laid}
+use Rattle.symbol.specs.Laid.{dotText}
+use Rattle.symbol.proofs.Layers.{laid-written, laid-nothing, laid-named, laid-front, laid-then}
 
 -- ---- the text at a field's left
 

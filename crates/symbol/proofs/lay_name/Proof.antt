@@ -1,11 +1,11 @@
 use native.Mathlib.Omega.{arith}
-use Rattle.plainprint.proofs.Layers.{laid-then, laid-room}
-use Rattle.plainprint.proofs.Names.{parts}
+use Rattle.symbol.proofs.Layers.{laid-then, laid-room}
+use Rattle.symbol.proofs.Laying.{parts}
 use Rattle.rules.specs.Names.{nameText}
 use Rattle.text.specs.Pick.{opt}
 use borrow.Author.Needs.{needs}
-use Rattle.plainprint.proofs.lay_name.Statement.{statement}
-use Rattle.plainprint.proofs.lay_name.Tie as tie
+use Rattle.symbol.proofs.lay_name.Statement.{statement}
+use Rattle.symbol.proofs.lay_name.Tie as tie
 
 slice-aggregate-lay-word : tie.Need-slice-aggregate-lay-word
 slice-aggregate-lay-word c = let p = parts (c .before .before .before .before .args .name .now) (omega arith) in omega arith

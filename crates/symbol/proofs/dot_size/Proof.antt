@@ -1,7 +1,7 @@
 use borrow.Author.Needs.{needs}
-use Rattle.plainprint.proofs.Names.{flags, flags-fit, flags-most, dot-length}
-use Rattle.plainprint.proofs.dot_size.Statement.{statement}
-use Rattle.plainprint.proofs.dot_size.Tie as tie
+use Rattle.symbol.proofs.Laying.{flags, flags-fit, flags-most, dot-length}
+use Rattle.symbol.proofs.dot_size.Statement.{statement}
+use Rattle.symbol.proofs.dot_size.Tie as tie
 
 unlike-requires : tie.Need-unlike-requires
 unlike-requires c κs = search needs

@@ -1,7 +1,7 @@
-use Rattle.plainprint.proofs.Names.{laid-word}
+use Rattle.symbol.proofs.Laying.{laid-word}
 use borrow.Author.Needs.{needs}
-use Rattle.plainprint.proofs.lay_word.Statement.{statement}
-use Rattle.plainprint.proofs.lay_word.Tie as tie
+use Rattle.symbol.proofs.lay_word.Statement.{statement}
+use Rattle.symbol.proofs.lay_word.Tie as tie
 
 write-bytes-requires : tie.Need-write-bytes-requires
 write-bytes-requires c κs = search needs

@@ -1,10 +1,10 @@
 use native.Mathlib.Omega.{arith}
 use lib.ListN.{length-take, length-drop, length-set}
-use Rattle.plainprint.proofs.Layers.{set-size}
-use Rattle.plainprint.proofs.Names.{laid-dotted}
+use Rattle.symbol.proofs.Layers.{set-size}
+use Rattle.symbol.proofs.Laying.{laid-dotted}
 use borrow.Author.Needs.{needs}
-use Rattle.plainprint.proofs.lay_part.Statement.{statement}
-use Rattle.plainprint.proofs.lay_part.Tie as tie
+use Rattle.symbol.proofs.lay_part.Statement.{statement}
+use Rattle.symbol.proofs.lay_part.Tie as tie
 
 slice-write-rest : tie.Need-slice-write-rest
 slice-write-rest c = search needs
