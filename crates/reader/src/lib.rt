@@ -128,6 +128,7 @@ fn end_at(s: &[u8], n: usize, x: Side) -> usize
     0
 }
 
+// Told as an error or as a cancel.
 fn amended_by(error: bool, p: PrintRead) -> ReadAnswer
     ensures { λ r. ⌜ r ≡ amended error p ⌝ }
 {

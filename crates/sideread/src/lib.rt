@@ -29,6 +29,7 @@ pub struct SideRead {
     pub taken: Taken,
 }
 
+// A side, or the refusal of a place where none stands.
 pub enum SideAnswer {
     Sided(SideRead),
     Refused(Refusal),
