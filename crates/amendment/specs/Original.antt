@@ -1,4 +1,4 @@
--- The front of a correction, up to its correcting trade. Assumes nothing.
+-- The front of a correction, up to its correcting trade (document 01, "Corrections and cancels"). Assumes nothing.
 use Prim.Native.Nat.{ℕ}
 use mathlib.Core.Bool.{Bool}
 use mathlib.Core.List.{List, _++_}

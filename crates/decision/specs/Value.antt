@@ -1,4 +1,4 @@
--- The rules of "Trades by mode" over what they ask of a trade, each worked out once: its volume, its price in units, its whole part, whether it qualifies for range and for last, whether it has J or G. Assumes nothing.
+-- The rules of "Trades by mode" over what they ask of a trade, each worked out once: its volume, its price in units, its whole part, whether it qualifies for range and for last, whether it has J or G. Each is the rule of rules/specs/Trade on a side's own values, by computing (proofs/Value). Assumes nothing.
 use Prim.Native.Nat.{ℕ}
 use mathlib.Core.Bool.{Bool, true, _&&_, _||_}
 use lib.Dec.{eqb}

@@ -203,15 +203,15 @@ pub fn shows_by(
         return true;
     }
     if comparing::at_level(st, volume) {
-        return true;
+        return true; // shown: at the level
     }
     if is_first(s, lasts) {
-        return true;
+        return true; // shown: the first that qualifies
     }
     if comparing::six(s, market) {
-        return true;
+        return true; // shown: six
     }
-    rule
+    rule // shown: J or G
 }
 
 // ---- high, low and last follow every accepted trade, and each correcting trade

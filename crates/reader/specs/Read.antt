@@ -30,6 +30,8 @@ use Rattle.reader.specs.declared.PrintRead.{PrintRead}
 use Rattle.reader.specs.declared.ReadAnswer.{ReadAnswer}
 use Rattle.reader.specs.declared.ReadAnswer.the-variants.{Announcement, Trade, Cancel, Error, Correction, Refused}
 
+-- a side's refusal (`Refused` of SideAnswer) is called Unsided here: the answers of this reader have a `Refused` of their own
+
 -- ---- a trade: head and side
 
 unfoldable pub tradeSide : NameRead → SideAnswer → ReadAnswer
