@@ -2,7 +2,7 @@
 use Prim.Native.Nat.{ℕ, suc, _+_, _-_, _≤_, _<_}
 use native.Mathlib.Numerals.{add-one}
 use native.Mathlib.Omega.{arith}
-use mathlib.Core.Path.{_≡_, refl, sym}
+use mathlib.Core.Path.{_≡_, refl, sym, _∙_}
 use mathlib.Core.Bool.{Bool, true, false}
 use mathlib.Core.List.{List, [], _∷_}
 use lib.Dec.{eqb}
@@ -101,9 +101,17 @@ some : (s : List ℕ) → 1 < length s → 0 < length s
 some s h = omega (arith, h)
 
 -- a field whose first column is blank has no letters
-pub no-letters : (s : List ℕ) → 1 < length s → getD s 0 0 ≡ 32 → (record { o = false; s = false; l = false; n = false; m = false; c = false; k = false; b = false; t = false; r = false; j = false; g = false }) ≡ lettersIn s
+pub none-are : (record { o = false; s = false; l = false; n = false; m = false; c = false; k = false; b = false; t = false; r = false; j = false; g = false }) ≡ lettersIn []
+unfolding lettersIn among word span
+none-are = refl
+
+word-none : word [] ≡ []
+unfolding word span
+word-none = refl
+
+pub no-letters : (s : List ℕ) (r : Letters) → 1 < length s → getD s 0 0 ≡ 32 → r ≡ lettersIn [] → r ≡ lettersIn s
 unfolding lettersIn among
-no-letters s h q = rw (word-stop s 0 (some s h) q)
+no-letters s r h q e = e ∙ rw (word-stop s 0 (some s h) q, word-none)
 
 pub lawful-none : (s : List ℕ) → 1 < length s → getD s 0 0 ≡ 32 → true ≡ lawfulLetters s
 unfolding lawfulLetters unrepeated atMostOne

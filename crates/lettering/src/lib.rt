@@ -1,12 +1,13 @@
 // Condition letters in a field of four columns (document 01, "Day lines", "Price and conditions"): formed, as a set, lawful together.
 use rules::Letters;
 ghost use mathlib.Core.Path.{_≡_};
+ghost use mathlib.Core.Bool.{true};
 ghost use mathlib.Core.List.{[], _∷_};
 ghost use Prim.Native.Nat.{_≤_, _<_};
-ghost use lib.ListN.{length, drop};
+ghost use lib.ListN.{length, getD, drop};
 ghost use Rattle.text.specs.Pick.{among};
 ghost use Rattle.text.specs.Reading.{span};
-ghost use Rattle.rules.specs.Columns.{word};
+ghost use Rattle.rules.specs.Columns.{blank, word};
 ghost use Rattle.rules.specs.Conditions.{isCondition, lettersFormed, lettersIn, unrepeated, noneOf, atMostOne, lawfulLetters};
 
 // ---- condition letters: four columns, filled from the left
@@ -45,10 +46,33 @@ fn conditions_ahead(field: &[u8]) -> usize
     i
 }
 
-// Condition letters from the left, then blanks.
+// Four columns, the last three of them blank.
+fn has_one_at_most(field: &[u8]) -> bool
+    ensures { λ r. ⌜ (r ≡ true → ((length (now (field .entry)) ≡ 4) × (blank (drop 1 (now (field .entry))) ≡ true))) ⌝ }
+{
+    if field.len() != 4 {
+        return false;
+    }
+    if field[1] != b' ' {
+        return false;
+    }
+    if field[2] != b' ' {
+        return false;
+    }
+    field[3] == b' '
+}
+
+// Condition letters from the left, then blanks; most fields are blank, or hold one.
 pub fn letters_formed(field: &[u8]) -> bool
     ensures { λ r. ⌜ r ≡ lettersFormed (now (field .entry)) ⌝ }
 {
+    if has_one_at_most(field) {
+        let c = field[0];
+        if c == b' ' {
+            return true;
+        }
+        return is_condition(c);
+    }
     let at = conditions_ahead(field);
     field::is_blank_part(&field[at..])
 }
@@ -69,6 +93,25 @@ fn has_letter(field: &[u8], c: u8) -> bool
         i += 1;
     }
     false
+}
+
+fn no_letters() -> Letters
+    ensures { λ r. ⌜ r ≡ lettersIn [] ⌝ }
+{
+    Letters {
+        o: false,
+        s: false,
+        l: false,
+        n: false,
+        m: false,
+        c: false,
+        k: false,
+        b: false,
+        t: false,
+        r: false,
+        j: false,
+        g: false,
+    }
 }
 
 // The letters of a field that holds no more than this one.
@@ -92,29 +135,27 @@ fn only_letter(x: u8) -> Letters
     }
 }
 
+// The letters of a field that holds one at most, in its first column.
+pub fn first_letter(field: &[u8]) -> Letters
+    requires { ⌜ (1 < length (now field)) × (getD (now field) 1 0 ≡ 32) ⌝ }
+    ensures { λ r. ⌜ r ≡ lettersIn (now (field .entry)) ⌝ }
+{
+    if field[0] == b' ' {
+        return no_letters();
+    }
+    only_letter(field[0])
+}
+
 // The letters that stand in a field; most fields are blank, or hold one.
 pub fn letters_in(field: &[u8]) -> Letters
     requires { ⌜ 1 < length (now field) ⌝ }
     ensures { λ r. ⌜ r ≡ lettersIn (now (field .entry)) ⌝ }
 {
-    if field[0] == b' ' {
-        return Letters {
-            o: false,
-            s: false,
-            l: false,
-            n: false,
-            m: false,
-            c: false,
-            k: false,
-            b: false,
-            t: false,
-            r: false,
-            j: false,
-            g: false,
-        };
-    }
     if field[1] == b' ' {
-        return only_letter(field[0]);
+        return first_letter(field);
+    }
+    if field[0] == b' ' {
+        return no_letters();
     }
     Letters {
         o: has_letter(field, b'O'),

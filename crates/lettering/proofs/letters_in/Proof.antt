@@ -1,4 +1,4 @@
-use Rattle.lettering.proofs.Letters.{no-letters, only-letters, each-letter}
+use Rattle.lettering.proofs.Letters.{no-letters, each-letter}
 use borrow.Author.Needs.{needs}
 use Rattle.lettering.proofs.letters_in.Statement.{statement}
 use Rattle.lettering.proofs.letters_in.Tie as tie
@@ -6,20 +6,20 @@ use Rattle.lettering.proofs.letters_in.Tie as tie
 shared-slice-read-if1 : tie.Need-shared-slice-read-if1
 shared-slice-read-if1 c = search needs
 
+first-letter-requires : tie.Need-first-letter-requires
+first-letter-requires c κs = search needs
+
 returns : tie.Need-returns
-returns c = search no-letters
+returns c = search needs
 
 shared-slice-read-if2 : tie.Need-shared-slice-read-if2
 shared-slice-read-if2 c = search needs
 
-shared-slice-read-only-letter : tie.Need-shared-slice-read-only-letter
-shared-slice-read-only-letter c = search needs
-
-only-letter-requires : tie.Need-only-letter-requires
-only-letter-requires c κs = search needs
+no-letters-requires : tie.Need-no-letters-requires
+no-letters-requires c κs = search needs
 
 returns-2 : tie.Need-returns-2
-returns-2 c = search only-letters
+returns-2 c = search no-letters
 
 has-letter-requires : tie.Need-has-letter-requires
 has-letter-requires c κs = search needs
@@ -65,10 +65,10 @@ letters-in-spec =
     tie.close
     (tie.spec
     shared-slice-read-if1
+    first-letter-requires
     returns
     shared-slice-read-if2
-    shared-slice-read-only-letter
-    only-letter-requires
+    no-letters-requires
     returns-2
     has-letter-requires
     has-letter-requires-2
