@@ -1,0 +1,4 @@
+pub mod Laying
+pub mod Digits
+pub mod Prices
+pub mod Volumes
