@@ -1,0 +1,4 @@
+pub mod Printable
+pub mod Worth
+pub mod Fields
+pub mod Lines

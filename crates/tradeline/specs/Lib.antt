@@ -1,0 +1,2 @@
+pub mod TradeLine
+pub mod Quick
