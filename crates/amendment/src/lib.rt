@@ -1,5 +1,6 @@
 // Corrections, cancels and errors as texts (document 01, "Corrections and cancels"): the length of each and its writer,
-// which is lent the rest of the tape. Their sides are those of trades; a name is its columns.
+// which is lent the rest of the tape. Their sides are those of trades, each with the columns that it stands in; a name is its
+// columns.
 use rules::Letters;
 use rules::Side;
 ghost use mathlib.Core.Path.{_≡_};
@@ -10,6 +11,7 @@ ghost use Rattle.text.specs.Pick.{pick, opt};
 ghost use Rattle.text.specs.Put.{Written};
 ghost use Rattle.rules.specs.Names.{nameText};
 ghost use Rattle.rules.specs.Side.{sideText};
+ghost use Rattle.trade.specs.Columns.{SideColumns};
 ghost use Rattle.amendment.specs.Original.{originalText};
 ghost use Rattle.rules.specs.Correction.{repeatsName, endPair, correctionText, cancelText, cancelOpening, errorOpening};
 
@@ -59,12 +61,13 @@ fn write_correcting(
     full: bool,
     shows: bool,
     y: Side,
+    part: &[u8],
 ) -> usize
-    requires { ⌜ (length (now name) ≡ 19) × (1 ≤ unit) × (y .price .d ≤ 8) × (y .previous .d ≤ 8) × (length (sideText (opt (repeatsName letters) (nameText false (now name))) network unit full shows y) ≤ length (now rest)) ⌝ }
+    requires { ⌜ (length (now name) ≡ 19) × (1 ≤ unit) × SideColumns (now part) y × (length (sideText (opt (repeatsName letters) (nameText false (now name))) network unit full shows y) ≤ length (now rest)) ⌝ }
     ensures { λ r. ⌜ Written (sideText (opt (repeatsName letters) (nameText false (now (name .entry)))) network unit full shows y) (now (rest .entry)) (now (rest .exit)) r ⌝ }
 {
     if qualifying::repeats_name(letters) {
-        return trade::write_side(rest, name, false, network, unit, full, shows, y);
+        return trade::write_side(rest, name, false, network, unit, full, shows, y, part);
     }
     trade::write_side(
         rest,
@@ -75,6 +78,7 @@ fn write_correcting(
         full,
         shows,
         y,
+        part,
     )
 }
 
@@ -115,12 +119,24 @@ pub fn write_cancel(
     full: bool,
     shows: bool,
     x: Side,
+    part: &[u8],
 ) -> usize
-    requires { ⌜ (length (now name) ≡ 19) × (1 ≤ unit) × (x .price .d ≤ 8) × (x .previous .d ≤ 8) × (length (cancelText (pick error errorOpening cancelOpening) (nameText false (now name)) network unit full shows x) ≤ length (now rest)) ⌝ }
+    requires { ⌜ (length (now name) ≡ 19) × (1 ≤ unit) × SideColumns (now part) x × (length (cancelText (pick error errorOpening cancelOpening) (nameText false (now name)) network unit full shows x) ≤ length (now rest)) ⌝ }
     ensures { λ r. ⌜ Written (cancelText (pick error errorOpening cancelOpening) (nameText false (now (name .entry))) network unit full shows x) (now (rest .entry)) (now (rest .exit)) r ⌝ }
 {
     let at = write_opening(rest, error);
-    let at2 = at + trade::write_side(&mut rest[at..], name, false, network, unit, full, shows, x);
+    let at2 = at
+        + trade::write_side(
+            &mut rest[at..],
+            name,
+            false,
+            network,
+            unit,
+            full,
+            shows,
+            x,
+            part,
+        );
     at2 + write_end_pair(&mut rest[at2..], x)
 }
 
@@ -153,12 +169,24 @@ fn write_original(
     full: bool,
     shows: bool,
     x: Side,
+    part: &[u8],
 ) -> usize
-    requires { ⌜ (length (now name) ≡ 19) × (1 ≤ unit) × (x .price .d ≤ 8) × (x .previous .d ≤ 8) × (length (originalText (nameText false (now name)) network unit full shows x) ≤ length (now rest)) ⌝ }
+    requires { ⌜ (length (now name) ≡ 19) × (1 ≤ unit) × SideColumns (now part) x × (length (originalText (nameText false (now name)) network unit full shows x) ≤ length (now rest)) ⌝ }
     ensures { λ r. ⌜ Written (originalText (nameText false (now (name .entry))) network unit full shows x) (now (rest .entry)) (now (rest .exit)) r ⌝ }
 {
     let at = text::write_bytes(rest, b"<<CORR.");
-    let at2 = at + trade::write_side(&mut rest[at..], name, false, network, unit, full, shows, x);
+    let at2 = at
+        + trade::write_side(
+            &mut rest[at..],
+            name,
+            false,
+            network,
+            unit,
+            full,
+            shows,
+            x,
+            part,
+        );
     at2 + text::write_bytes(&mut rest[at2..], b"WAS.")
 }
 
@@ -171,12 +199,14 @@ pub fn write_correction(
     shows: bool,
     x: Side,
     y: Side,
+    part: &[u8],
+    other: &[u8],
 ) -> usize
-    requires { ⌜ (length (now name) ≡ 19) × (1 ≤ unit) × (x .price .d ≤ 8) × (x .previous .d ≤ 8) × (y .price .d ≤ 8) × (y .previous .d ≤ 8) × (length (correctionText (nameText false (now name)) network unit full shows x y) ≤ length (now rest)) ⌝ }
+    requires { ⌜ (length (now name) ≡ 19) × (1 ≤ unit) × SideColumns (now part) x × SideColumns (now other) y × (length (correctionText (nameText false (now name)) network unit full shows x y) ≤ length (now rest)) ⌝ }
     ensures { λ r. ⌜ Written (correctionText (nameText false (now (name .entry))) network unit full shows x y) (now (rest .entry)) (now (rest .exit)) r ⌝ }
 {
     let letters = y.letters; // the text, by the correcting trade
-    let at = write_original(rest, name, network, unit, full, shows, x);
+    let at = write_original(rest, name, network, unit, full, shows, x, part);
     let at2 = at
         + write_correcting(
             &mut rest[at..],
@@ -187,6 +217,7 @@ pub fn write_correction(
             full,
             shows,
             y,
+            other,
         );
     at2 + write_end_pair(&mut rest[at2..], y)
 }

@@ -1,4 +1,4 @@
 pub mod Arms
 pub mod Steps
-pub mod PlainCalls
+pub mod TradeOnly
 pub mod TradeCalls

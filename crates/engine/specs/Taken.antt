@@ -1,7 +1,7 @@
 -- One call of the engine (document 01, "Tape characters", "Day lines", "Lines not taken"): what it prints, stores and answers, by the plan that the line asks for. Assumes nothing.
 use Prim.Native.Nat.{ℕ}
 use mathlib.Core.Path.{_≡_}
-use mathlib.Core.Bool.{true, false}
+use mathlib.Core.Bool.{Bool, true, false}
 use mathlib.Core.List.{List}
 use lib.ListN.{length}
 use Rattle.text.specs.Put.{put}
@@ -13,7 +13,7 @@ use Rattle.planner.specs.Plan.{planOf}
 use Rattle.engine.specs.declared.Outcome.{Outcome}
 use Rattle.engine.specs.declared.Outcome.the-variants.{Accepted, Refused}
 use Rattle.engine.specs.declared.Answer.{Answer}
-use Rattle.engine.specs.declared.PlainAnswer.{PlainAnswer}
+use Rattle.traded.specs.declared.TradeAnswer.{TradeAnswer}
 use Rattle.planprint.specs.Print.{printedName, fittedOf, printOf}
 use Rattle.planstate.specs.After.{settingsAfter, tableAfter, namesAfter}
 
@@ -43,9 +43,23 @@ pub record Taken (st : Settings) (table names line tape table′ names′ tape�
   pub names-is : names′ ≡ namesAfter names line (asked st table names line (length tape))
   pub tape-is : tape′ ≡ put (printOf st names (asked st table names line (length tape))) tape
 
--- ---- a call for a plain trade alone: taken as any call takes it, its line in shape; or nothing is done
-pub record PlainTaken (st : Settings) (table names line tape table′ tape′ : List ℕ) (r : PlainAnswer) : Type 0 where
+-- ---- a call for a trade alone: taken, as any call takes it, exactly if the call accepts a T line; or nothing is done
+
+unfoldable pub isTrade : Plan → Bool
+isTrade (Stop r) = false
+isTrade (Open d) = false
+isTrade (Enter i s) = false
+isTrade (Change m) = false
+isTrade (Level l) = false
+isTrade (Step l) = false
+isTrade (Print t) = true
+isTrade (Cancel t) = false
+isTrade (Correct c) = false
+
+pub record TradeTaken (st : Settings) (table names line tape table′ tape′ : List ℕ) (r : TradeAnswer) : Type 0 where
+  pub accepts : r .taken ≡ isTrade (asked st table names line (length tape))
   pub shaped : r .taken ≡ true → isShaped line ≡ true
   pub taken-is : r .taken ≡ true → Taken st table names line tape table′ names tape′ (record { outcome = Accepted (r .length); settings = st })
   pub table-same : r .taken ≡ false → table′ ≡ table
   pub tape-same : r .taken ≡ false → tape′ ≡ tape
+  pub no-length : r .taken ≡ false → r .length ≡ 0

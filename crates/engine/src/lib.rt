@@ -1,26 +1,15 @@
 // The engine: one call takes one line. Any bytes of any length are a line; the state is settings by value and two lent tables
 // of fixed size, every value of which has a meaning; the tape is lent, of any length. Nothing is required. The promise is
 // `Taken`: the outcome, the settings, every byte of both tables and every byte of the tape.
-use plainline::Plain;
 use planner::Plan;
-use planner::TradePlan;
 use rules::Refusal;
 use rules::Settings;
-use rules::Trade;
+use traded::TradeAnswer;
+use tradeline::TradeLine;
 ghost use mathlib.Core.Path.{_≡_};
-ghost use Prim.Native.Nat.{_≤_, _<_};
-ghost use lib.ListN.{length};
-ghost use Rattle.text.specs.Put.{Written};
-ghost use mathlib.Core.Bool.{true};
-ghost use Rattle.rules.specs.Names.{nameText};
 ghost use Rattle.rules.specs.Day.{opened};
-ghost use Rattle.rules.specs.Line.{tradeFormed, tradeRanged, tradeOf};
-ghost use Rattle.table.specs.Rows.{nameOf, withRow};
-ghost use Rattle.planner.specs.Plan.{SoundTrade};
-ghost use Rattle.engine.specs.declared.Outcome.the-variants.{Refused};
-ghost use Rattle.engine.specs.Calls.{PlainCall, TradeCall, answered};
-ghost use Rattle.planprint.specs.Print.{SoundPrint, printText};
-ghost use Rattle.engine.specs.Taken.{asked, outcomeOf, Taken, PlainTaken};
+ghost use Rattle.engine.specs.Calls.{GoodCall};
+ghost use Rattle.engine.specs.Taken.{asked, outcomeOf, Taken, TradeTaken};
 
 // Accepted, with the length of its print, 0 where nothing prints; or refused.
 pub enum Outcome {
@@ -31,12 +20,6 @@ pub enum Outcome {
 pub struct Answer {
     pub outcome: Outcome,
     pub settings: Settings,
-}
-
-// Whether a line was taken as a plain trade, and the length of its print.
-pub struct PlainAnswer {
-    pub taken: bool,
-    pub length: usize,
 }
 
 fn outcome_of(p: Plan, n: usize) -> Outcome
@@ -78,112 +61,46 @@ pub fn ask_line(
     planprint::fitted(st, names, line, p, room)
 }
 
-// A plain trade whose security is entered; the security is 0 where the line is none.
-fn plain_at(st: Settings, table: &[u64; 5632], line: &[u8]) -> Plain
-    ensures { λ r. ⌜ (1 ≤ r .security → PlainCall st (now (table .entry)) (now (line .entry)) r) ⌝ }
-{
-    if st.date == 0 {
-        return plainline::nothing();
-    }
-    let p = plainline::read_plain(line);
-    if p.security < 1 {
-        return plainline::nothing();
-    }
-    let place = (p.security - 1) as usize;
-    let s = table::load(table, place);
-    if !qualifying::is_entered(s) {
-        return plainline::nothing();
-    }
-    p
-}
+// ---- trades
 
-// Any other T line after a D, where there is room for any print.
-fn is_trade(st: Settings, line: &[u8], room: usize) -> bool
-    ensures { λ r. ⌜ (r ≡ true → TradeCall st (now (line .entry)) room) ⌝ }
-{
-    if room < 200 {
-        return false;
-    }
-    if st.date == 0 {
-        return false;
-    }
-    if !planner::is_shaped(line) {
-        return false;
-    }
-    line[0] == b'T'
-}
-
-fn refused(st: Settings, x: Refusal) -> Answer
-    ensures { λ r. ⌜ r ≡ answered (Refused x) st ⌝ }
-{
-    Answer {
-        outcome: Outcome::Refused(x),
-        settings: st,
-    }
-}
-
-// An accepted trade: its print and its security.
-fn take_print(table: &mut [u64; 5632], names: &[u8; 9728], t: TradePlan, tape: &mut [u8]) -> usize
-    requires { ⌜ SoundPrint t × (200 ≤ length (now tape)) ⌝ }
-    ensures { λ r. ⌜ (now (table .exit) ≡ withRow (now (table .entry)) (t .place) (t .after)) × Written (printText (nameText (t .temporary) (nameOf (now (names .entry)) (t .place))) t) (now (tape .entry)) (now (tape .exit)) r ⌝ }
-{
-    let place = t.place;
-    let after = t.after;
-    table::store(table, place, after);
-    planprint::write_print(tape, names, t)
-}
-
-// A trade in its form and within its values: refusals 6, 10 and 11, or its print.
-fn take_traded(
+// A T line that nothing but the day's state can stop, after a D: its security may not be entered (6).
+fn take_good(
     st: Settings,
     table: &mut [u64; 5632],
     names: &[u8; 9728],
     line: &[u8],
-    t: Trade,
+    t: TradeLine,
     tape: &mut [u8],
-) -> Answer
-    requires { ⌜ TradeCall st (now line) (length (now tape)) × (t ≡ tradeOf (now line)) × (tradeFormed (now line) ≡ true) × (tradeRanged (now line) ≡ true) × SoundTrade t ⌝ }
-    ensures { λ r. ⌜ Taken st (now (table .entry)) (now (names .entry)) (now (line .entry)) (now (tape .entry)) (now (table .exit)) (now (names .entry)) (now (tape .exit)) r ⌝ }
+) -> TradeAnswer
+    requires { ⌜ GoodCall st (now line) t ⌝ }
+    ensures { λ r. ⌜ TradeTaken st (now (table .entry)) (now (names .entry)) (now (line .entry)) (now (tape .entry)) (now (table .exit)) (now (tape .exit)) r ⌝ }
 {
     let place = (t.security - 1) as usize;
     let s = table::load(table, place);
     if !qualifying::is_entered(s) {
-        return refused(st, Refusal::NotEntered);
+        return traded::untaken();
     }
-    if !planner::is_lawful(s, t) {
-        return refused(st, Refusal::Conditions);
-    }
-    if !t.matched {
-        return refused(st, Refusal::Unmatched);
-    }
-    let p = planner::print_plan(st, s, t);
-    let k = take_print(table, names, p, tape);
-    Answer {
-        outcome: Outcome::Accepted(k),
-        settings: st,
-    }
+    traded::carry_out(st, table, names, place, s, t, &line[6..52], tape)
 }
 
-// A T line: refusals 4 and 5 first.
-fn take_trade(
+// A trade: a T line that the call accepts. With any other line nothing is done, and the answer says so.
+pub fn take_trade(
     st: Settings,
     table: &mut [u64; 5632],
     names: &[u8; 9728],
     line: &[u8],
     tape: &mut [u8],
-) -> Answer
-    requires { ⌜ TradeCall st (now line) (length (now tape)) ⌝ }
-    ensures { λ r. ⌜ Taken st (now (table .entry)) (now (names .entry)) (now (line .entry)) (now (tape .entry)) (now (table .exit)) (now (names .entry)) (now (tape .exit)) r ⌝ }
+) -> TradeAnswer
+    ensures { λ r. ⌜ TradeTaken st (now (table .entry)) (now (names .entry)) (now (line .entry)) (now (tape .entry)) (now (table .exit)) (now (tape .exit)) r ⌝ }
 {
-    let read = dayline::read_trade(line);
-    if !read.formed {
-        return refused(st, Refusal::Form);
+    if st.date == 0 {
+        return traded::untaken();
     }
-    if !read.ranged {
-        return refused(st, Refusal::Value);
+    let t = tradeline::read_trade_line(line);
+    if !t.good {
+        return traded::untaken();
     }
-    let t = read.trade;
-    take_traded(st, table, names, line, t, tape)
+    take_good(st, table, names, line, t, tape)
 }
 
 // Every other line: by its plan.
@@ -207,53 +124,7 @@ fn take_other(
     }
 }
 
-// Any line by the way that every line can go: as `take_line`, which asks first for a plain trade.
-pub fn take_any(
-    st: Settings,
-    table: &mut [u64; 5632],
-    names: &mut [u8; 9728],
-    line: &[u8],
-    tape: &mut [u8],
-) -> Answer
-    ensures { λ r. ⌜ Taken st (now (table .entry)) (now (names .entry)) (now (line .entry)) (now (tape .entry)) (now (table .exit)) (now (names .exit)) (now (tape .exit)) r ⌝ }
-{
-    if is_trade(st, line, tape.len()) {
-        return take_trade(st, table, names, line, tape);
-    }
-    take_other(st, table, names, line, tape)
-}
-
-// A plain trade alone, where there is room for any print. With any other line nothing is done.
-pub fn take_plain(
-    st: Settings,
-    table: &mut [u64; 5632],
-    names: &[u8; 9728],
-    line: &[u8],
-    tape: &mut [u8],
-) -> PlainAnswer
-    ensures { λ r. ⌜ PlainTaken st (now (table .entry)) (now (names .entry)) (now (line .entry)) (now (tape .entry)) (now (table .exit)) (now (tape .exit)) r ⌝ }
-{
-    if tape.len() < 200 {
-        return PlainAnswer {
-            taken: false,
-            length: 0,
-        };
-    }
-    let p = plain_at(st, table, line);
-    if p.security < 1 {
-        return PlainAnswer {
-            taken: false,
-            length: 0,
-        };
-    }
-    let k = plaintrade::take_plain(st, table, names, p, line, tape);
-    PlainAnswer {
-        taken: true,
-        length: k,
-    }
-}
-
-// One call. Most lines are plain trades, and most tapes have room for any print.
+// One call. Most lines are trades; what is none, or is refused, goes by its plan.
 pub fn take_line(
     st: Settings,
     table: &mut [u64; 5632],
@@ -263,12 +134,12 @@ pub fn take_line(
 ) -> Answer
     ensures { λ r. ⌜ Taken st (now (table .entry)) (now (names .entry)) (now (line .entry)) (now (tape .entry)) (now (table .exit)) (now (names .exit)) (now (tape .exit)) r ⌝ }
 {
-    let p = take_plain(st, table, names, line, tape);
-    if p.taken {
+    let t = take_trade(st, table, names, line, tape);
+    if t.taken {
         return Answer {
-            outcome: Outcome::Accepted(p.length),
+            outcome: Outcome::Accepted(t.length),
             settings: st,
         };
     }
-    take_any(st, table, names, line, tape)
+    take_other(st, table, names, line, tape)
 }

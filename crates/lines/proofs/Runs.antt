@@ -1,4 +1,4 @@
--- A run of plain trades: what holds from turn to turn, and its steps. Assumes nothing.
+-- A run of trades: what holds from turn to turn, and its steps. Assumes nothing.
 use Prim.Native.Nat.{ℕ, suc, _+_, _-_, _^_, _≤_, _<_}
 use native.Mathlib.Omega.{arith}
 use mathlib.Core.Path.{_≡_, refl, sym, ap, _∙_}
@@ -17,8 +17,8 @@ use Rattle.rules.specs.Columns.{between}
 use Rattle.rules.specs.Line.{isPrintable, isShaped}
 use Rattle.rules.specs.declared.Settings.{Settings}
 use Rattle.engine.specs.declared.Outcome.the-variants.{Accepted}
-use Rattle.engine.specs.declared.PlainAnswer.{PlainAnswer}
-use Rattle.engine.specs.Taken.{Taken, PlainTaken}
+use Rattle.traded.specs.declared.TradeAnswer.{TradeAnswer}
+use Rattle.engine.specs.Taken.{Taken, TradeTaken}
 use Rattle.blocks.specs.Lines.{lineEnd, endsAt}
 use Rattle.blocks.proofs.Scan.{line-at}
 use Rattle.lines.specs.Feed.{Progress, printed, told, roomLeft, Here, Steps, Runs}
@@ -50,7 +50,7 @@ pub line-in : (block : List ℕ) (at : ℕ) (b : Bool) → b ≡ endsAt block (a
 unfolding endsAt
 line-in block at b e f = ltb-true (at + 100) (length block) (and-left (ltb (at + 100) (length block)) _ (sym e ∙ not-false b f))
 
-module _ (block names refusals table₀ tape₀ : List ℕ) (st : Settings) (f : Fed) (table tape : List ℕ) (r : Fed) (inv : Run block names refusals table₀ tape₀ st f table tape r) (table′ ys : List ℕ) (p : PlainAnswer) where
+module _ (block names refusals table₀ tape₀ : List ℕ) (st : Settings) (f : Fed) (table tape : List ℕ) (r : Fed) (inv : Run block names refusals table₀ tape₀ st f table tape r) (table′ ys : List ℕ) (p : TradeAnswer) where
   abbrev line : List ℕ
   line = take (r .at + 100 - r .at) (drop (r .at) block)
 
@@ -63,8 +63,8 @@ module _ (block names refusals table₀ tape₀ : List ℕ) (st : Settings) (f :
   abbrev next : Fed
   next = record { settings = r .settings; number = r .number + 1; at = r .at + 100 + 1; tape = r .tape + p .length; refusals = r .refusals }
 
-  module _ (t : PlainTaken st table names line lent table′ ys p) where
-    -- no plain trade: nothing was done
+  module _ (t : TradeTaken st table names line lent table′ ys p) where
+    -- no trade: nothing was done
     pub run-stop : not (p .taken) ≡ true → Runs block names refusals table₀ tape₀ f table′ tape′ r
     run-stop e =
         let none = not-true (p .taken) e in

@@ -93,7 +93,7 @@ fn room_left(f: Fed, tape: usize, refusals: usize) -> bool
     f.number <= 9999999999
 }
 
-// The line from where the reading stands up to `end`: most that come here are no plain trades.
+// The line from where the reading stands up to `end`.
 fn feed_line(
     f: Fed,
     table: &mut [u64; 5632],
@@ -111,7 +111,7 @@ fn feed_line(
     let n = f.tape;
     let k = f.refusals;
     let st = f.settings;
-    let a = engine::take_any(st, table, names, &block[at..end], &mut tape[n..]);
+    let a = engine::take_line(st, table, names, &block[at..end], &mut tape[n..]);
     let settings = a.settings;
     let outcome = a.outcome;
     let on_tape = n + printed_length(outcome);
@@ -125,9 +125,9 @@ fn feed_line(
     }
 }
 
-// Plain trades from where the reading stands on, as many as follow one another. The line feed behind 100 bytes is not searched
-// for: a plain trade has none in it.
-fn feed_plain(
+// Trades from where the reading stands on, as many as follow one another. The line feed behind 100 bytes is not searched for:
+// a trade has none in it.
+fn feed_trades(
     f: Fed,
     table: &mut [u64; 5632],
     names: &[u8; 9728],
@@ -147,7 +147,7 @@ fn feed_plain(
             return r;
         }
         let n = r.tape;
-        let p = engine::take_plain(st, table, names, &block[at..end], &mut tape[n..]);
+        let p = engine::take_trade(st, table, names, &block[at..end], &mut tape[n..]);
         if !p.taken {
             return r;
         }
@@ -158,7 +158,7 @@ fn feed_plain(
     r
 }
 
-// A line that a line feed ends, and the plain trades behind it.
+// A line that a line feed ends, and the trades behind it.
 fn feed_next(
     f: Fed,
     table: &mut [u64; 5632],
@@ -172,7 +172,7 @@ fn feed_next(
     ensures { λ r. ⌜ Onward (now (block .entry)) end (now (table .entry)) (now (names .entry)) (now (tape .entry)) (now (refusals .entry)) f (now (table .exit)) (now (names .exit)) (now (tape .exit)) (now (refusals .exit)) r ⌝ }
 {
     let g = feed_line(f, table, names, block, end, tape, refusals);
-    feed_plain(g, table, names, block, tape, refusals)
+    feed_trades(g, table, names, block, tape, refusals)
 }
 
 // ---- a block

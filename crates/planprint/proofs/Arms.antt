@@ -80,21 +80,21 @@ pub ruleset quiet = (text-stop, text-open, text-enter, length-stop, length-open,
 -- ---- what a plan owes
 
 module _ (line : List ℕ) (p : Plan) (sound : SoundPlan line p) where
-  pub sound-print : (t : TradePlan) → p ≡ Print t → SoundPrint t
+  pub sound-print : (t : TradePlan) → p ≡ Print t → SoundPrint line t
   unfolding SoundPlan
   sound-print t e = rw e at sound
 
   pub place-print : (t : TradePlan) → p ≡ Print t → t .place < 512
   place-print t e = (sound-print t e) .place-is
 
-  pub sound-cancel : (t : CancelPlan) → p ≡ Cancel t → SoundCancel t
+  pub sound-cancel : (t : CancelPlan) → p ≡ Cancel t → SoundCancel line t
   unfolding SoundPlan
   sound-cancel t e = rw e at sound
 
   pub place-cancel : (t : CancelPlan) → p ≡ Cancel t → t .place < 512
   place-cancel t e = (sound-cancel t e) .place-is
 
-  pub sound-correct : (c : CorrectionPlan) → p ≡ Correct c → SoundCorrect c
+  pub sound-correct : (c : CorrectionPlan) → p ≡ Correct c → SoundCorrect line c
   unfolding SoundPlan
   sound-correct c e = rw e at sound
 

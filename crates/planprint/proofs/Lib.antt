@@ -2,3 +2,4 @@ pub mod Arms
 pub mod Sound
 pub mod Room
 pub mod Most
+pub mod Columns

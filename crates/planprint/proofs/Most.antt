@@ -115,14 +115,14 @@ module _ (st : Settings) (name line : List ℕ) (vs : List Val) (set : st .minim
   text-most (Level n) g h = level-most n (omega (arith, g .1))
   text-most (Step n) g h = step-most (st .mode) n (omega (arith, g .1))
   text-most (Print t) g h =
-      let x : Short (t .side) = record { volume-is = omega (arith, g .1); price-is = omega (arith, g .1); decimals-are = h .price-is; days-are = omega (arith, g .1); previous-is = omega (arith, g .1); previous-decimals = h .previous-is } in
+      let x : Short (t .side) = record { volume-is = omega (arith, g .1); price-is = omega (arith, g .1); decimals-are = h .stands .sound .decimals; days-are = omega (arith, g .1); previous-is = omega (arith, g .1); previous-decimals = h .stands .previous-is } in
       trade-most (t .side) x name l _ _ _ _ (t .prints)
   text-most (Cancel t) g h =
-      let x : Short (t .side) = record { volume-is = omega (arith, g .1); price-is = omega (arith, g .1); decimals-are = h .price-is; days-are = omega (arith, g .1); previous-is = omega (arith, g .1); previous-decimals = h .previous-is } in
+      let x : Short (t .side) = record { volume-is = omega (arith, g .1); price-is = omega (arith, g .1); decimals-are = h .stands .sound .decimals; days-are = omega (arith, g .1); previous-is = omega (arith, g .1); previous-decimals = h .stands .previous-is } in
       cancel-most (t .side) x name l _ _ _ _ _ (sym (opening-length (t .error)))
   text-most (Correct c) g h =
-      let x : Short (c .original) = record { volume-is = omega (arith, g .1); price-is = omega (arith, g .1); decimals-are = h .original-is; days-are = omega (arith, g .1); previous-is = omega (arith, g .1); previous-decimals = h .original-previous } in
-      let y : Short (c .correcting) = record { volume-is = omega (arith, g .1); price-is = omega (arith, g .1); decimals-are = h .correcting-is; days-are = omega (arith, g .1); previous-is = omega (arith, g .1); previous-decimals = h .correcting-previous } in
+      let x : Short (c .original) = record { volume-is = omega (arith, g .1); price-is = omega (arith, g .1); decimals-are = h .original-stands .sound .decimals; days-are = omega (arith, g .1); previous-is = omega (arith, g .1); previous-decimals = h .original-stands .previous-is } in
+      let y : Short (c .correcting) = record { volume-is = omega (arith, g .1); price-is = omega (arith, g .1); decimals-are = h .correcting-stands .sound .decimals; days-are = omega (arith, g .1); previous-is = omega (arith, g .1); previous-decimals = h .correcting-stands .previous-is } in
       correction-most (c .original) (c .correcting) x y name l _ _ _ _ (c .prints)
 
   pub any-fits : (p : Plan) (room : ℕ) → Is (row the-type) p vs → SoundPlan line p → 400 ≤ room → p ≡ fittedOf st name p room

@@ -9,7 +9,7 @@ use lib.ListN.{length}
 use borrow.Author.Tests.{eqb-false, not-true, not-false}
 use Rattle.text.specs.Pick.{pick}
 use Rattle.rules.specs.Columns.{column}
-use Rattle.rules.specs.Line.{isShaped, isRanged, lineOf, nameColumns, ofKind}
+use Rattle.rules.specs.Line.{isShaped, isFormed, isRanged, lineOf, nameColumns, firstSide, secondSide, ofKind}
 use Rattle.rules.specs.Day.{isEntered}
 use Rattle.rules.specs.declared.Listing.{Listing}
 use Rattle.rules.specs.declared.Trade.{Trade}
@@ -22,7 +22,9 @@ use Rattle.planner.specs.declared.Plan.{Plan}
 use Rattle.planner.specs.declared.Plan.the-variants.{Stop, Open, Enter, Change, Level, Step, Print, Cancel, Correct}
 use Rattle.planner.specs.Plan.{datePlan, listingPlan, unlessStopped, printPlan, tradePlan, cancelOf, cancelPlan, correctionOf, correctionPlan, linePlan, readPlan, planOf, SoundListing, SoundTrade, SoundCorrection, SoundLine}
 use Rattle.planner.proofs.Ranged.{sound-line, shaped}
+use Rattle.trade.specs.Columns.{SideColumns}
 use Rattle.planprint.specs.Print.{SoundPrint, SoundCancel, SoundCorrect, SoundPlan}
+use Rattle.planprint.proofs.Columns.{SidesStand, sides-stand}
 
 either : (line : List ℕ) (b : Bool) (p q : Plan) → SoundPlan line p → (b ≡ false → SoundPlan line q) → SoundPlan line (pick b p q)
 unfolding pick
@@ -56,39 +58,40 @@ module _ (st : Settings) (table names line : List ℕ) where
       either line _ _ _ tt (λ f.
       either line _ _ _ tt (λ g. h (has-unit s e))))
 
-  trade-sound : (s : Security) (t : Trade) → SoundTrade t → SoundPlan line (tradePlan st s t)
-  unfolding tradePlan printPlan SoundPlan
-  trade-sound s t h = stops-sound s t _ (λ u. record { place-is = omega (arith, h .low, h .high); unit-is = u; price-is = h .price .decimals; previous-is = h .previous })
+  module _ (k : length line ≡ 100) where
+    trade-sound : (s : Security) (t : Trade) → SoundTrade t → SideColumns (firstSide line) (t .side) → SoundPlan line (tradePlan st s t)
+    unfolding tradePlan printPlan SoundPlan
+    trade-sound s t h w = stops-sound s t _ (λ u. record { place-is = omega (arith, h .low, h .high); unit-is = u; line-is = k; stands = w })
 
-  cancel-sound : (error : Bool) (s : Security) (t : Trade) → SoundTrade t → SoundPlan line (cancelPlan error st s t)
-  unfolding cancelPlan cancelOf SoundPlan
-  cancel-sound error s t h = stops-sound s t _ (λ u. record { place-is = omega (arith, h .low, h .high); unit-is = u; price-is = h .price .decimals; previous-is = h .previous })
+    cancel-sound : (error : Bool) (s : Security) (t : Trade) → SoundTrade t → SideColumns (firstSide line) (t .side) → SoundPlan line (cancelPlan error st s t)
+    unfolding cancelPlan cancelOf SoundPlan
+    cancel-sound error s t h w = stops-sound s t _ (λ u. record { place-is = omega (arith, h .low, h .high); unit-is = u; line-is = k; stands = w })
 
-  correction-sound : (s : Security) (c : Correction) → SoundCorrection c → SoundPlan line (correctionPlan st s c)
-  unfolding correctionPlan correctionOf SoundPlan
-  correction-sound s c h =
-      either line _ _ _ tt (λ e.
-      either line _ _ _ tt (λ f.
-      either line _ _ _ tt (λ g. record { place-is = omega (arith, h .low, h .high); unit-is = has-unit s e; original-is = h .original .decimals; original-previous = h .original-previous; correcting-is = h .correcting .decimals; correcting-previous = h .correcting-previous })))
+    correction-sound : (s : Security) (c : Correction) → SoundCorrection c → SideColumns (firstSide line) (c .original) × SideColumns (secondSide line) (c .correcting) → SoundPlan line (correctionPlan st s c)
+    unfolding correctionPlan correctionOf SoundPlan
+    correction-sound s c h w =
+        either line _ _ _ tt (λ e.
+        either line _ _ _ tt (λ f.
+        either line _ _ _ tt (λ g. record { place-is = omega (arith, h .low, h .high); unit-is = has-unit s e; line-is = k; original-stands = w .0; correcting-stands = w .1 })))
 
-  line-sound : (name : List ℕ) (l : Line) → SoundLine l → length line ≡ 100 → SoundPlan line (linePlan st table names name l)
-  unfolding linePlan SoundLine SoundPlan
-  line-sound name (Dated n) h k = date-sound n
-  line-sound name (Listed l) h k = listing-sound name l h k
-  line-sound name (Moded m) h k = tt
-  line-sound name (Leveled n) h k = tt
-  line-sound name (Stepped n) h k = tt
-  line-sound name (Traded t) h k = trade-sound _ t h
-  line-sound name (Cancelled t) h k = cancel-sound false _ t h
-  line-sound name (Erred t) h k = cancel-sound true _ t h
-  line-sound name (Corrected c) h k = correction-sound _ c h
+    line-sound : (name : List ℕ) (l : Line) → SoundLine l → SidesStand line l → SoundPlan line (linePlan st table names name l)
+    unfolding linePlan SoundLine SidesStand SoundPlan
+    line-sound name (Dated n) h w = date-sound n
+    line-sound name (Listed l) h w = listing-sound name l h k
+    line-sound name (Moded m) h w = tt
+    line-sound name (Leveled n) h w = tt
+    line-sound name (Stepped n) h w = tt
+    line-sound name (Traded t) h w = trade-sound _ t h w
+    line-sound name (Cancelled t) h w = cancel-sound false _ t h w
+    line-sound name (Erred t) h w = cancel-sound true _ t h w
+    line-sound name (Corrected c) h w = correction-sound _ c h w
 
   read-sound : length line ≡ 100 → SoundPlan line (readPlan st table names line)
-  unfolding readPlan SoundPlan isRanged lineOf
+  unfolding readPlan SoundPlan isFormed isRanged lineOf
   read-sound k =
       either line _ _ _ tt (λ e.
       either line _ _ _ tt (λ f.
-      line-sound (nameColumns line) (lineOf line) (sound-line line (ofKind (column 1 line) line) refl f) k))
+      line-sound k (nameColumns line) (lineOf line) (sound-line line (ofKind (column 1 line) line) refl f) (sides-stand line k (column 1 line) (not-false _ e) (not-false _ f))))
 
   plan-sound : SoundPlan line (planOf st table names line)
   unfolding planOf SoundPlan

@@ -7,12 +7,14 @@ use lib.Dec.{ltb}
 use lib.ListN.{length}
 use Rattle.text.specs.Pick.{pick, opt}
 use Rattle.rules.specs.Names.{nameText}
+use Rattle.rules.specs.Line.{firstSide, secondSide}
 use Rattle.rules.specs.Side.{sideText}
 use Rattle.rules.specs.Correction.{correctionText, cancelText, cancelOpening, errorOpening}
 use Rattle.rules.specs.Announcement.{modeText, levelText, stepText}
 use Rattle.rules.specs.declared.Refusal.the-variants.{Room}
 use Rattle.rules.specs.declared.Settings.{Settings}
 use Rattle.table.specs.Rows.{nameOf}
+use Rattle.trade.specs.Columns.{SideColumns}
 use Rattle.planner.specs.declared.TradePlan.{TradePlan}
 use Rattle.planner.specs.declared.CancelPlan.{CancelPlan}
 use Rattle.planner.specs.declared.CorrectionPlan.{CorrectionPlan}
@@ -67,25 +69,24 @@ printOf st names p = textOf st (printedName names p) p
 
 -- ---- what the plan of a line owes
 
-pub record SoundPrint (t : TradePlan) : Type 0 where
+pub record SoundPrint (line : List ℕ) (t : TradePlan) : Type 0 where
   pub place-is : t .place < 512
   pub unit-is : 1 ≤ t .unit
-  pub price-is : t .side .price .d ≤ 8
-  pub previous-is : t .side .previous .d ≤ 8
+  pub line-is : length line ≡ 100
+  pub stands : SideColumns (firstSide line) (t .side)
 
-pub record SoundCancel (t : CancelPlan) : Type 0 where
+pub record SoundCancel (line : List ℕ) (t : CancelPlan) : Type 0 where
   pub place-is : t .place < 512
   pub unit-is : 1 ≤ t .unit
-  pub price-is : t .side .price .d ≤ 8
-  pub previous-is : t .side .previous .d ≤ 8
+  pub line-is : length line ≡ 100
+  pub stands : SideColumns (firstSide line) (t .side)
 
-pub record SoundCorrect (c : CorrectionPlan) : Type 0 where
+pub record SoundCorrect (line : List ℕ) (c : CorrectionPlan) : Type 0 where
   pub place-is : c .place < 512
   pub unit-is : 1 ≤ c .unit
-  pub original-is : c .original .price .d ≤ 8
-  pub original-previous : c .original .previous .d ≤ 8
-  pub correcting-is : c .correcting .price .d ≤ 8
-  pub correcting-previous : c .correcting .previous .d ≤ 8
+  pub line-is : length line ≡ 100
+  pub original-stands : SideColumns (firstSide line) (c .original)
+  pub correcting-stands : SideColumns (secondSide line) (c .correcting)
 
 unfoldable pub SoundPlan : List ℕ → Plan → Type 0
 SoundPlan line (Stop r) = Unit {0}
@@ -94,6 +95,6 @@ SoundPlan line (Enter i s) = (i < 512) × (length line ≡ 100)
 SoundPlan line (Change m) = Unit {0}
 SoundPlan line (Level n) = Unit {0}
 SoundPlan line (Step n) = Unit {0}
-SoundPlan line (Print t) = SoundPrint t
-SoundPlan line (Cancel t) = SoundCancel t
-SoundPlan line (Correct c) = SoundCorrect c
+SoundPlan line (Print t) = SoundPrint line t
+SoundPlan line (Cancel t) = SoundCancel line t
+SoundPlan line (Correct c) = SoundCorrect line c

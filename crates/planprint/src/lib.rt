@@ -17,8 +17,8 @@ ghost use Rattle.planprint.specs.Print.{SoundPrint, SoundCancel, SoundCo
 
 // ---- the print: its length, whether it fits, its writer
 
-fn print_length(names: &[u8; 9728], t: TradePlan) -> usize
-    requires { ⌜ SoundPrint t ⌝ }
+fn print_length(names: &[u8; 9728], line: &[u8], t: TradePlan) -> usize
+    requires { ⌜ SoundPrint (now line) t ⌝ }
     ensures { λ r. ⌜ r ≡ length (printText (nameText (t .temporary) (nameOf (now (names .entry)) (t .place))) t) ⌝ }
 {
     let side = t.side;
@@ -29,8 +29,8 @@ fn print_length(names: &[u8; 9728], t: TradePlan) -> usize
     0
 }
 
-fn cancel_length(names: &[u8; 9728], t: CancelPlan) -> usize
-    requires { ⌜ SoundCancel t ⌝ }
+fn cancel_length(names: &[u8; 9728], line: &[u8], t: CancelPlan) -> usize
+    requires { ⌜ SoundCancel (now line) t ⌝ }
     ensures { λ r. ⌜ r ≡ length (cancelled (nameText false (nameOf (now (names .entry)) (t .place))) t) ⌝ }
 {
     let side = t.side;
@@ -38,8 +38,8 @@ fn cancel_length(names: &[u8; 9728], t: CancelPlan) -> usize
     amendment::cancel_length(t.error, name, t.network, t.unit, t.full, t.shows, side)
 }
 
-fn correction_length(names: &[u8; 9728], c: CorrectionPlan) -> usize
-    requires { ⌜ SoundCorrect c ⌝ }
+fn correction_length(names: &[u8; 9728], line: &[u8], c: CorrectionPlan) -> usize
+    requires { ⌜ SoundCorrect (now line) c ⌝ }
     ensures { λ r. ⌜ r ≡ length (corrected (nameText false (nameOf (now (names .entry)) (c .place))) c) ⌝ }
 {
     let x = c.original;
@@ -63,9 +63,9 @@ fn text_length(st: Settings, names: &[u8; 9728], line: &[u8], p: Plan) -> usize
         Plan::Change(m) => announcement::mode_length(m, st.minimum),
         Plan::Level(n) => announcement::level_length(n),
         Plan::Step(n) => announcement::step_length(mode, n),
-        Plan::Print(t) => print_length(names, t),
-        Plan::Cancel(t) => cancel_length(names, t),
-        Plan::Correct(c) => correction_length(names, c),
+        Plan::Print(t) => print_length(names, line, t),
+        Plan::Cancel(t) => cancel_length(names, line, t),
+        Plan::Correct(c) => correction_length(names, line, c),
     }
 }
 
@@ -83,8 +83,8 @@ pub fn fitted(st: Settings, names: &[u8; 9728], line: &[u8], p: Plan, room: usiz
     p
 }
 
-pub fn write_print(rest: &mut [u8], names: &[u8; 9728], t: TradePlan) -> usize
-    requires { ⌜ SoundPrint t × (length (printText (nameText (t .temporary) (nameOf (now names) (t .place))) t) ≤ length (now rest)) ⌝ }
+fn write_print(rest: &mut [u8], names: &[u8; 9728], line: &[u8], t: TradePlan) -> usize
+    requires { ⌜ SoundPrint (now line) t × (length (printText (nameText (t .temporary) (nameOf (now names) (t .place))) t) ≤ length (now rest)) ⌝ }
     ensures { λ r. ⌜ Written (printText (nameText (t .temporary) (nameOf (now (names .entry)) (t .place))) t) (now (rest .entry)) (now (rest .exit)) r ⌝ }
 {
     let side = t.side;
@@ -99,13 +99,14 @@ pub fn write_print(rest: &mut [u8], names: &[u8; 9728], t: TradePlan) -> usize
             t.full,
             t.shows,
             side,
+            &line[6..52],
         );
     }
     0
 }
 
-fn write_cancel(rest: &mut [u8], names: &[u8; 9728], t: CancelPlan) -> usize
-    requires { ⌜ SoundCancel t × (length (cancelled (nameText false (nameOf (now names) (t .place))) t) ≤ length (now rest)) ⌝ }
+fn write_cancel(rest: &mut [u8], names: &[u8; 9728], line: &[u8], t: CancelPlan) -> usize
+    requires { ⌜ SoundCancel (now line) t × (length (cancelled (nameText false (nameOf (now names) (t .place))) t) ≤ length (now rest)) ⌝ }
     ensures { λ r. ⌜ Written (cancelled (nameText false (nameOf (now (names .entry)) (t .place))) t) (now (rest .entry)) (now (rest .exit)) r ⌝ }
 {
     let side = t.side;
@@ -119,18 +120,30 @@ fn write_cancel(rest: &mut [u8], names: &[u8; 9728], t: CancelPlan) -> usize
         t.full,
         t.shows,
         side,
+        &line[6..52],
     )
 }
 
-fn write_correction(rest: &mut [u8], names: &[u8; 9728], c: CorrectionPlan) -> usize
-    requires { ⌜ SoundCorrect c × (length (corrected (nameText false (nameOf (now names) (c .place))) c) ≤ length (now rest)) ⌝ }
+fn write_correction(rest: &mut [u8], names: &[u8; 9728], line: &[u8], c: CorrectionPlan) -> usize
+    requires { ⌜ SoundCorrect (now line) c × (length (corrected (nameText false (nameOf (now names) (c .place))) c) ≤ length (now rest)) ⌝ }
     ensures { λ r. ⌜ Written (corrected (nameText false (nameOf (now (names .entry)) (c .place))) c) (now (rest .entry)) (now (rest .exit)) r ⌝ }
 {
     let x = c.original;
     let y = c.correcting;
     if c.prints {
         let name = table::name_at(names, c.place);
-        return amendment::write_correction(rest, name, c.network, c.unit, c.full, c.shows, x, y);
+        return amendment::write_correction(
+            rest,
+            name,
+            c.network,
+            c.unit,
+            c.full,
+            c.shows,
+            x,
+            y,
+            &line[6..52],
+            &line[52..98],
+        );
     }
     0
 }
@@ -147,8 +160,8 @@ pub fn write_text(rest: &mut [u8], st: Settings, names: &[u8; 9728], line: &[u8]
         Plan::Change(m) => announcement::write_mode(rest, m, st.minimum),
         Plan::Level(n) => announcement::write_level(rest, n),
         Plan::Step(n) => announcement::write_step(rest, mode, n),
-        Plan::Print(t) => write_print(rest, names, t),
-        Plan::Cancel(t) => write_cancel(rest, names, t),
-        Plan::Correct(c) => write_correction(rest, names, c),
+        Plan::Print(t) => write_print(rest, names, line, t),
+        Plan::Cancel(t) => write_cancel(rest, names, line, t),
+        Plan::Correct(c) => write_correction(rest, names, line, c),
     }
 }

@@ -4,9 +4,9 @@ use native.Mathlib.Numerals.{add-one}
 use native.Mathlib.Omega.{arith}
 use mathlib.Core.Path.{_≡_, refl, sym, ap, _∙_}
 use mathlib.Core.List.{List, [], _∷_, _++_, append-nil}
-use lib.ListN.{length, take, drop, set, length-append, length-take, length-drop, length-set, drop-of-length-le}
-use lib.Seq.{take-take, take-at, take-append-add, take-suc-set, length-take-le, take-add}
-use Rattle.text.specs.Put.{Written}
+use lib.ListN.{length, take, drop, set, length-append, length-take, length-drop, length-set, drop-of-length-le, take-append-drop}
+use lib.Seq.{take-take, take-at, drop-at, take-all, drop-drop, take-append-le, take-append-add, take-suc-set, length-take-le, take-add}
+use Rattle.text.specs.Put.{put, Written}
 use Rattle.text.proofs.Writing.{length-put}
 use Rattle.text.proofs.Parts as parts
 use Rattle.symbol.specs.Laid.{Laid}
@@ -102,3 +102,69 @@ same-size xs ys at e =
 -- the same after a byte was put into the whole
 pub set-size : (b ys : List ℕ) (i c at : ℕ) → length ys ≡ length (take (length (set b i c) - at) (drop at (set b i c))) → length (take at (set b i c) ++ (ys ++ drop (length (set b i c) - at) (drop at (set b i c)))) ≡ length b
 set-size b ys i c at e = same-size (set b i c) ys at e ∙ length-set b i c
+
+-- ---- a fixed number of bytes is written, and what stood behind the text is put back
+
+-- a text as long as the part that it was written to
+pub filled : (t b a : List ℕ) (n : ℕ) → Written t b a n → length b ≡ length t → a ≡ t
+unfolding put
+filled t b a n w e = w .tape ∙ (let l : length b ≤ length t = omega arith in ap (λ (l : List ℕ). t ++ l) (drop-of-length-le b l) ∙ append-nil t)
+
+module _ (j n : ℕ) (s b new kept xs ys : List ℕ) (i q : ℕ) (new-is : new ≡ take j s) (kept-is : kept ≡ take j (drop n b)) (v : Written new b xs i) (w : Written kept (take (length xs - n) (drop n xs)) ys q) (h : n ≤ j) (k : j ≤ length s) (l : n + j ≤ length b) where
+  new-length : length new ≡ j
+  new-length = ap length new-is ∙ length-take-le j s k
+
+  kept-length : length kept ≡ j
+  kept-length = ap length kept-is ∙ length-take-le j (drop n b) (omega (arith, length-drop n b))
+
+  size-xs : length xs ≡ length b
+  size-xs = (laid-written v) .size
+
+  whole-back : drop (length xs - n) (drop n xs) ≡ []
+  whole-back = let m : length (drop n xs) ≤ length xs - n = omega (arith, length-drop n xs) in drop-of-length-le (drop n xs) m
+
+  lent : take (length xs - n) (drop n xs) ≡ drop n xs
+  lent = take-all (length xs - n) (drop n xs) (omega (arith, length-drop n xs))
+
+  -- the j bytes written leave those from j on, and so those from n + j on
+  untouched : drop j (drop n xs) ≡ drop j (drop n b)
+  unfolding put
+  untouched =
+      let a : drop j xs ≡ drop j b = ap (drop j) (v .tape) ∙ (drop-at new (drop (length new) b) j new-length ∙ ap (λ (z : ℕ). drop z b) new-length) in
+      let e : n + j ≡ j + n = omega arith in
+      drop-drop j n xs ∙ (ap (λ (z : ℕ). drop z xs) e ∙ (sym (drop-drop n j xs) ∙ (ap (drop n) a ∙ (drop-drop n j b ∙ (ap (λ (z : ℕ). drop z b) (sym e) ∙ sym (drop-drop j n b))))))
+
+  behind : ys ≡ drop n b
+  unfolding put
+  behind = w .tape ∙ (ap (put kept) lent ∙ (ap (λ (z : ℕ). kept ++ drop z (drop n xs)) kept-length ∙ (ap (λ (z : List ℕ). kept ++ z) untouched ∙ (ap (λ (z : List ℕ). z ++ drop j (drop n b)) kept-is ∙ take-append-drop j (drop n b)))))
+
+  front-is : take n xs ≡ take n s
+  unfolding put
+  front-is = ap (take n) (v .tape) ∙ (take-append-le n new (drop (length new) b) (omega (arith, new-length)) ∙ (ap (take n) new-is ∙ take-take n j s h))
+
+  pub put-back : Written (take n s) b (take n xs ++ (ys ++ drop (length xs - n) (drop n xs))) n
+  unfolding put
+  put-back =
+      let e : length (take n s) ≡ n = length-take-le n s (omega arith) in
+      record {
+        tape = simp (whole-back, append-nil, front-is, behind, e);
+        count-is = sym e;
+        within = omega arith;
+      }
+
+pub take-length : (j : ℕ) (s : List ℕ) → j ≤ length s → j ≡ length (take j s)
+take-length j s h = sym (length-take-le j s h)
+
+pub take-most : (j : ℕ) (s : List ℕ) → length (take j s) ≤ j
+take-most j s = omega (arith, length-take j s)
+
+-- both read into bytes of their own first
+pub put-again : (j n : ℕ) (s b y z new kept xs ys : List ℕ) (i m p q : ℕ)
+    → Written (take (n + j - n) (drop n b)) y kept m → length y ≡ j → Written (take j s) z new p → length z ≡ j
+    → Written new b xs i → Written kept (take (length xs - n) (drop n xs)) ys q → n ≤ j → j ≤ length s → j + j ≤ length b
+    → Written (take n s) b (take n xs ++ (ys ++ drop (length xs - n) (drop n xs))) n
+put-again j n s b y z new kept xs ys i m p q a ly c lz v w h k l =
+    let e : n + j - n ≡ j = omega arith in
+    let f : take (n + j - n) (drop n b) ≡ take j (drop n b) = rw e in
+    let g : length (take j (drop n b)) ≡ j = length-take-le j (drop n b) (omega (arith, length-drop n b)) in
+    put-back j n s b new kept xs ys i q (filled _ z new p c (lz ∙ take-length j s k)) (filled _ y kept m a (ly ∙ (sym g ∙ ap length (sym f))) ∙ f) v w h k (omega arith)

@@ -14,13 +14,15 @@ use Rattle.text.specs.Pick.{opt, same}
 use Rattle.text.specs.Put.{Written}
 use Rattle.text.proofs.Writing.{written-nothing}
 use Rattle.text.proofs.Booleans.{and-false}
-use Rattle.text.proofs.Parts.{front, opt-short}
+use Rattle.text.proofs.Parts.{opt-short}
 use Rattle.rules.specs.Tape.{isRaised}
 use Rattle.rules.specs.Columns.{word}
 use Rattle.rules.specs.Names.{rootField, suffixField, temporaryField, appendageField, partText, nameText, hasTemporary, sameName}
 use Rattle.rules.proofs.Fields.{word-short, word-byte}
 use Rattle.words.specs.Word.{WordOf}
 use Rattle.suffix.proofs.Lawful.{unlike-nothing}
+use Rattle.symbol.specs.Laid.{Laid}
+use Rattle.symbol.proofs.Layers.{cut}
 
 -- ---- a part: n bytes of its field, with the letter dot or without
 
@@ -118,12 +120,9 @@ module _ (b : Bool) (s : List ℕ) (k l m n : ℕ) (w : WordOf (rootField s) k) 
 pub counted-short : (b : Bool) (s : List ℕ) (n : ℕ) → length s ≡ 19 → n ≡ length (nameText b s) → (n ≡ length (nameText b s)) × (n ≤ 22)
 counted-short b s n h e = (e, omega (arith, name-most b s))
 
-pub name-fits : (b : Bool) (s : List ℕ) → length s ≡ 19 → length (nameText b s) ≤ 24
-name-fits b s h = omega (arith, name-most b s)
-
--- two texts that writers left, compared
-pub same-cut : (t u b c x y : List ℕ) (m n : ℕ) (r : Bool) → Written t b x m → Written u c y n → r ≡ same (take m x) (take n y) → r ≡ same t u
-same-cut t u b c x y m n r v w e = e ∙ rw (front v, front w)
+-- two texts that are laid, compared
+pub same-cut : (t u b c x y : List ℕ) (m n : ℕ) (r : Bool) → Laid t b x m → Laid u c y n → r ≡ same (take m x) (take n y) → r ≡ same t u
+same-cut t u b c x y m n r v w e = e ∙ rw (cut v, cut w)
 
 -- ---- names that begin with different bytes
 

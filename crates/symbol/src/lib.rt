@@ -4,7 +4,7 @@ ghost use mathlib.Core.Path.{_≡_};
 ghost use mathlib.Core.Bool.{true, false};
 ghost use Prim.Native.Nat.{_+_, _≤_};
 ghost use lib.Dec.{eqb};
-ghost use lib.ListN.{length};
+ghost use lib.ListN.{length, take};
 ghost use Rattle.text.specs.Pick.{pick, opt, same};
 ghost use Rattle.text.specs.Put.{Written};
 ghost use Rattle.rules.specs.Tape.{isRaised};
@@ -135,7 +135,7 @@ fn lay_shown(rest: &mut [u8], field: &[u8], shown: bool) -> usize
 }
 
 // Root, suffix, temporary suffix where it is shown, appendage.
-pub fn lay_name(rest: &mut [u8], name: &[u8], temporary: bool) -> usize
+fn lay_name(rest: &mut [u8], name: &[u8], temporary: bool) -> usize
     requires { ⌜ (length (now name) ≡ 19) × (22 ≤ length (now rest)) ⌝ }
     ensures { λ r. ⌜ Laid (nameText temporary (now (name .entry))) (now (rest .entry)) (now (rest .exit)) r × (r ≤ 22) ⌝ }
 {
@@ -143,6 +143,22 @@ pub fn lay_name(rest: &mut [u8], name: &[u8], temporary: bool) -> usize
     let b = a + lay_part(&mut rest[a..], &name[6..13]);
     let c = b + lay_shown(&mut rest[b..], &name[13..17], temporary);
     c + lay_shown(&mut rest[c..], &name[17..19], true)
+}
+
+// The first n of sixteen bytes and more, where the tape has 32. A fixed number of bytes is written, then those that stood
+// behind the text are put back; all are read before the first is written.
+fn write_sixteen(rest: &mut [u8], laid: &[u8], n: usize) -> usize
+    requires { ⌜ (n ≤ 16) × (16 ≤ length (now laid)) × (32 ≤ length (now rest)) ⌝ }
+    ensures { λ r. ⌜ Written (take n (now (laid .entry))) (now (rest .entry)) (now (rest .exit)) r ⌝ }
+{
+    let up = n + 16;
+    let mut kept = [0u8; 16];
+    text::write_bytes(&mut kept, &rest[n..up]);
+    let mut new = [0u8; 16];
+    text::write_bytes(&mut new, &laid[..16]);
+    text::write_bytes(rest, &new);
+    text::write_bytes(&mut rest[n..], &kept);
+    n
 }
 
 // The name, laid in bytes of its own first; the bytes of the tape behind it keep their values.
@@ -153,7 +169,13 @@ pub fn write_name(rest: &mut [u8], name: &[u8], temporary: bool) -> usize
 {
     let mut buffer = [0u8; 22];
     let n = lay_name(&mut buffer, name, temporary);
-    text::write_bytes(rest, &buffer[..n])
+    if 16 < n {
+        return text::write_bytes(rest, &buffer[..n]);
+    }
+    if rest.len() < 32 {
+        return text::write_bytes(rest, &buffer[..n]);
+    }
+    write_sixteen(rest, &buffer, n)
 }
 
 // ---- which are the same
@@ -163,10 +185,10 @@ fn same_shown(a: &[u8], shown: bool, b: &[u8], other: bool) -> bool
     requires { ⌜ (length (now a) ≡ 19) × (length (now b) ≡ 19) ⌝ }
     ensures { λ r. ⌜ r ≡ same (nameText shown (now (a .entry))) (nameText other (now (b .entry))) ⌝ }
 {
-    let mut first = [0u8; 24];
-    let mut second = [0u8; 24];
-    let m = write_name(&mut first, a, shown);
-    let n = write_name(&mut second, b, other);
+    let mut first = [0u8; 22];
+    let mut second = [0u8; 22];
+    let m = lay_name(&mut first, a, shown);
+    let n = lay_name(&mut second, b, other);
     text::same_text(&first[..m], &second[..n])
 }
 

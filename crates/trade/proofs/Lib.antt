@@ -1,2 +1,3 @@
 pub mod SideBack
 pub mod Short
+pub mod Columns

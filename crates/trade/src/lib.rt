@@ -10,6 +10,10 @@ ghost use Rattle.text.specs.Put.{Written};
 ghost use Rattle.rules.specs.Names.{nameText};
 ghost use Rattle.rules.specs.Volume.{volumeText};
 ghost use Rattle.rules.specs.Side.{headText, tailText, sideText};
+ghost use Rattle.rules.specs.Conditions.{afterName};
+ghost use mathlib.Core.Bool.{false};
+ghost use mathlib.Core.List.{[]};
+ghost use Rattle.trade.specs.Columns.{SideColumns};
 
 // The volume, where it is shown.
 fn shown_volume_length(shows: bool, network: u64, unit: u64, v: u64) -> usize
@@ -18,16 +22,6 @@ fn shown_volume_length(shows: bool, network: u64, unit: u64, v: u64) -> usize
 {
     if shows {
         return volumes::volume_length(network, unit, v);
-    }
-    0
-}
-
-fn write_shown_volume(rest: &mut [u8], shows: bool, network: u64, unit: u64, v: u64) -> usize
-    requires { ⌜ (1 ≤ unit) × (length (opt shows (volumeText network unit v)) ≤ length (now rest)) ⌝ }
-    ensures { λ r. ⌜ Written (opt shows (volumeText network unit v)) (now (rest .entry)) (now (rest .exit)) r ⌝ }
-{
-    if shows {
-        return volumes::write_volume(rest, network, unit, v);
     }
     0
 }
@@ -41,11 +35,15 @@ fn head_length(name: &[u8], temporary: bool, x: Letters) -> usize
     n + conditions::after_name_length(x)
 }
 
-fn write_head(rest: &mut [u8], name: &[u8], temporary: bool, x: Letters) -> usize
-    requires { ⌜ (length (now name) ≡ 19) × (length (headText (nameText temporary (now name)) x) ≤ length (now rest)) ⌝ }
+// `marked`: some letter stands in the line.
+fn write_head(rest: &mut [u8], name: &[u8], temporary: bool, marked: bool, x: Letters) -> usize
+    requires { ⌜ (length (now name) ≡ 19) × (marked ≡ false → afterName x ≡ []) × (length (headText (nameText temporary (now name)) x) ≤ length (now rest)) ⌝ }
     ensures { λ r. ⌜ Written (headText (nameText temporary (now (name .entry))) x) (now (rest .entry)) (now (rest .exit)) r ⌝ }
 {
     let at = symbol::write_name(rest, name, temporary);
+    if !marked {
+        return at;
+    }
     at + conditions::write_after_name(&mut rest[at..], x)
 }
 
@@ -59,10 +57,13 @@ fn tail_length(x: Side) -> usize
     a + ending::at_end_length(x)
 }
 
-fn write_tail(rest: &mut [u8], x: Side) -> usize
-    requires { ⌜ (x .previous .d ≤ 8) × (length (tailText x) ≤ length (now rest)) ⌝ }
+fn write_tail(rest: &mut [u8], marked: bool, x: Side) -> usize
+    requires { ⌜ (x .previous .d ≤ 8) × (marked ≡ false → tailText x ≡ []) × (length (tailText x) ≤ length (now rest)) ⌝ }
     ensures { λ r. ⌜ Written (tailText x) (now (rest .entry)) (now (rest .exit)) r ⌝ }
 {
+    if !marked {
+        return 0;
+    }
     let letters = x.letters;
     let at = conditions::write_after_price(rest, letters);
     at + ending::write_at_end(&mut rest[at..], x)
@@ -89,6 +90,8 @@ pub fn side_length(
     a + b + c + tail_length(x)
 }
 
+// `part` are the columns that the side stands in: volume and price are written from them, and where they hold no letter no
+// condition is asked for.
 pub fn write_side(
     rest: &mut [u8],
     name: &[u8],
@@ -98,14 +101,16 @@ pub fn write_side(
     full: bool,
     shows: bool,
     x: Side,
+    part: &[u8],
 ) -> usize
-    requires { ⌜ (length (now name) ≡ 19) × (1 ≤ unit) × (x .price .d ≤ 8) × (x .previous .d ≤ 8) × (length (sideText (nameText temporary (now name)) network unit full shows x) ≤ length (now rest)) ⌝ }
+    requires { ⌜ (length (now name) ≡ 19) × (1 ≤ unit) × SideColumns (now part) x × (length (sideText (nameText temporary (now name)) network unit full shows x) ≤ length (now rest)) ⌝ }
     ensures { λ r. ⌜ Written (sideText (nameText temporary (now (name .entry))) network unit full shows x) (now (rest .entry)) (now (rest .exit)) r ⌝ }
 {
     let letters = x.letters;
     let price = x.price;
-    let at = write_head(rest, name, temporary, letters);
-    let at2 = at + write_shown_volume(&mut rest[at..], shows, network, unit, x.volume);
-    let at3 = at2 + prices::write_price(&mut rest[at2..], full, price);
-    at3 + write_tail(&mut rest[at3..], x)
+    let marked = part[24] != b' ';
+    let at = write_head(rest, name, temporary, marked, letters);
+    let at2 = at + amounts::write_volume(&mut rest[at..], part, shows, network, unit, x.volume);
+    let at3 = at2 + amounts::write_price(&mut rest[at2..], &part[9..46], full, price);
+    at3 + write_tail(&mut rest[at3..], marked, x)
 }

@@ -7,7 +7,7 @@ repeats-name-requires : tie.Need-repeats-name-requires
 repeats-name-requires c κs = search needs
 
 write-side-requires : tie.Need-write-side-requires
-write-side-requires c κs = (search needs, search needs, search needs, search needs, search repeated)
+write-side-requires c κs = (search needs, search needs, search needs, search repeated)
 
 same-length : tie.Need-same-length
 same-length c = search needs
@@ -19,7 +19,7 @@ slice-aggregate-write-side : tie.Need-slice-aggregate-write-side
 slice-aggregate-write-side c = search needs
 
 write-side-requires-2 : tie.Need-write-side-requires-2
-write-side-requires-2 c κs = (search needs, search needs, search needs, search needs, search repeated)
+write-side-requires-2 c κs = (search needs, search needs, search needs, search repeated)
 
 same-length-2 : tie.Need-same-length-2
 same-length-2 c = search needs

@@ -7,7 +7,7 @@ use Rattle.amendment.proofs.write_correction.Tie as tie
 
 write-original-requires : tie.Need-write-original-requires
 unfolding correctionText originalText
-write-original-requires c κs = (search needs, search needs, search needs, search needs, search rooms depth 9)
+write-original-requires c κs = (search needs, search needs, search needs, search rooms depth 9)
 
 sub-write-correcting : tie.Need-sub-write-correcting
 sub-write-correcting c = search needs
@@ -20,7 +20,7 @@ part-write-correcting-end c = search needs
 
 write-correcting-requires : tie.Need-write-correcting-requires
 unfolding correctionText originalText
-write-correcting-requires c κs = (search needs, search needs, search needs, search needs, search rooms depth 9)
+write-correcting-requires c κs = (search needs, search needs, search needs, search rooms depth 9)
 
 add-at2 : tie.Need-add-at2
 add-at2 c = search needs

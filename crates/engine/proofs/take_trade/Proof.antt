@@ -1,25 +1,25 @@
-use Rattle.engine.proofs.TradeCalls.{line-length, trade-read, is-formed, is-ranged, is-sound, form-taken, value-taken}
+use Rattle.engine.proofs.TradeCalls.{undated, no-good, good-call}
 use borrow.Author.Needs.{needs}
 use Rattle.engine.proofs.take_trade.Statement.{statement}
 use Rattle.engine.proofs.take_trade.Tie as tie
 
-read-trade-requires : tie.Need-read-trade-requires
-read-trade-requires c κs = search line-length
-
-refused-requires : tie.Need-refused-requires
-refused-requires c κs = search needs
+untaken-requires : tie.Need-untaken-requires
+untaken-requires c κs = search needs
 
 returns : tie.Need-returns
-returns c = search form-taken
+returns c = search undated
 
-refused-requires-2 : tie.Need-refused-requires-2
-refused-requires-2 c κs = search needs
+read-trade-line-requires : tie.Need-read-trade-line-requires
+read-trade-line-requires c κs = search needs
+
+untaken-requires-2 : tie.Need-untaken-requires-2
+untaken-requires-2 c κs = search needs
 
 returns-2 : tie.Need-returns-2
-returns-2 c = search value-taken
+returns-2 c = search no-good
 
-take-traded-requires : tie.Need-take-traded-requires
-take-traded-requires c κs = (search needs, search trade-read, search is-formed, search is-ranged, search is-sound)
+take-good-requires : tie.Need-take-good-requires
+take-good-requires c κs = search good-call
 
 same-length : tie.Need-same-length
 same-length c = search needs
@@ -31,11 +31,11 @@ pub take-trade-spec : {M : Type 1} → statement M
 take-trade-spec =
     tie.close
     (tie.spec
-    read-trade-requires
-    refused-requires
+    untaken-requires
     returns
-    refused-requires-2
+    read-trade-line-requires
+    untaken-requires-2
     returns-2
-    take-traded-requires
+    take-good-requires
     same-length
     returns-3)

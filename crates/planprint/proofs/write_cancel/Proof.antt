@@ -6,8 +6,17 @@ use Rattle.planprint.proofs.write_cancel.Tie as tie
 name-at-requires : tie.Need-name-at-requires
 name-at-requires c κs = search needs
 
+sub-write-cancel : tie.Need-sub-write-cancel
+sub-write-cancel c = search needs
+
+part-write-cancel-start : tie.Need-part-write-cancel-start
+part-write-cancel-start c = search needs
+
+part-write-cancel-end : tie.Need-part-write-cancel-end
+part-write-cancel-end c = search needs
+
 write-cancel-requires : tie.Need-write-cancel-requires
-write-cancel-requires c κs = (search needs, search needs, search needs, search needs, search cancels)
+write-cancel-requires c κs = (search needs, search needs, search needs, search cancels)
 
 same-length : tie.Need-same-length
 same-length c = search needs
@@ -16,4 +25,13 @@ returns : tie.Need-returns
 returns c = search cancels
 
 pub write-cancel-spec : {M : Type 1} → statement M
-write-cancel-spec = tie.close (tie.spec name-at-requires write-cancel-requires same-length returns)
+write-cancel-spec =
+    tie.close
+    (tie.spec
+    name-at-requires
+    sub-write-cancel
+    part-write-cancel-start
+    part-write-cancel-end
+    write-cancel-requires
+    same-length
+    returns)

@@ -24,6 +24,33 @@ same-length c = search needs
 returns : tie.Need-returns
 returns c = search cut-written
 
+array-share-prefix-buffer-2 : tie.Need-array-share-prefix-buffer-2
+array-share-prefix-buffer-2 c = search needs
+
+slice-aggregate-write-bytes-2 : tie.Need-slice-aggregate-write-bytes-2
+slice-aggregate-write-bytes-2 c = search cut-length
+
+write-bytes-requires-2 : tie.Need-write-bytes-requires-2
+write-bytes-requires-2 c κs = search cut-room
+
+same-length-2 : tie.Need-same-length-2
+same-length-2 c = search needs
+
+returns-2 : tie.Need-returns-2
+returns-2 c = search cut-written
+
+slice-aggregate-write-sixteen : tie.Need-slice-aggregate-write-sixteen
+slice-aggregate-write-sixteen c = search needs
+
+write-sixteen-requires : tie.Need-write-sixteen-requires
+write-sixteen-requires c κs = search needs
+
+same-length-3 : tie.Need-same-length-3
+same-length-3 c = search needs
+
+returns-3 : tie.Need-returns-3
+returns-3 c = search cut-written
+
 pub write-name-spec : {M : Type 1} → statement M
 write-name-spec =
     tie.close
@@ -34,4 +61,13 @@ write-name-spec =
     slice-aggregate-write-bytes
     write-bytes-requires
     same-length
-    returns)
+    returns
+    array-share-prefix-buffer-2
+    slice-aggregate-write-bytes-2
+    write-bytes-requires-2
+    same-length-2
+    returns-2
+    slice-aggregate-write-sixteen
+    write-sixteen-requires
+    same-length-3
+    returns-3)

@@ -1,25 +1,29 @@
 use Rattle.text.proofs.Writing.{rooms, then}
 use Rattle.rules.specs.Side.{sideText}
+use Rattle.trade.proofs.Columns.{volume-columns, price-columns, no-head, no-tail}
 use borrow.Author.Needs.{needs}
 use Rattle.trade.proofs.write_side.Statement.{statement}
 use Rattle.trade.proofs.write_side.Tie as tie
 
+shared-slice-read-marked : tie.Need-shared-slice-read-marked
+shared-slice-read-marked c = search needs
+
 write-head-requires : tie.Need-write-head-requires
 unfolding sideText
-write-head-requires c κs = (search needs, search rooms depth 9)
+write-head-requires c κs = (search needs, search no-head, search rooms depth 9)
 
-sub-write-shown-volume : tie.Need-sub-write-shown-volume
-sub-write-shown-volume c = search needs
+sub-write-volume : tie.Need-sub-write-volume
+sub-write-volume c = search needs
 
-part-write-shown-volume-start : tie.Need-part-write-shown-volume-start
-part-write-shown-volume-start c = search needs
+part-write-volume-start : tie.Need-part-write-volume-start
+part-write-volume-start c = search needs
 
-part-write-shown-volume-end : tie.Need-part-write-shown-volume-end
-part-write-shown-volume-end c = search needs
+part-write-volume-end : tie.Need-part-write-volume-end
+part-write-volume-end c = search needs
 
-write-shown-volume-requires : tie.Need-write-shown-volume-requires
+write-volume-requires : tie.Need-write-volume-requires
 unfolding sideText
-write-shown-volume-requires c κs = (search needs, search rooms depth 9)
+write-volume-requires c κs = (search needs, search volume-columns, search rooms depth 9)
 
 add-at2 : tie.Need-add-at2
 add-at2 c = search needs
@@ -33,9 +37,18 @@ part-write-price-start c = search needs
 part-write-price-end : tie.Need-part-write-price-end
 part-write-price-end c = search needs
 
+sub-write-price-2 : tie.Need-sub-write-price-2
+sub-write-price-2 c = search needs
+
+part-write-price-start-2 : tie.Need-part-write-price-start-2
+part-write-price-start-2 c = search needs
+
+part-write-price-end-2 : tie.Need-part-write-price-end-2
+part-write-price-end-2 c = search needs
+
 write-price-requires : tie.Need-write-price-requires
 unfolding sideText
-write-price-requires c κs = (search needs, search rooms depth 9)
+write-price-requires c κs = (search price-columns, search rooms depth 9)
 
 add-at3 : tie.Need-add-at3
 add-at3 c = search needs
@@ -51,7 +64,7 @@ part-write-tail-end c = search needs
 
 write-tail-requires : tie.Need-write-tail-requires
 unfolding sideText
-write-tail-requires c κs = (search needs, search rooms depth 9)
+write-tail-requires c κs = (search needs, search no-tail, search rooms depth 9)
 
 add-result : tie.Need-add-result
 add-result c = search needs
@@ -67,15 +80,19 @@ pub write-side-spec : {M : Type 1} → statement M
 write-side-spec =
     tie.close
     (tie.spec
+    shared-slice-read-marked
     write-head-requires
-    sub-write-shown-volume
-    part-write-shown-volume-start
-    part-write-shown-volume-end
-    write-shown-volume-requires
+    sub-write-volume
+    part-write-volume-start
+    part-write-volume-end
+    write-volume-requires
     add-at2
     sub-write-price
     part-write-price-start
     part-write-price-end
+    sub-write-price-2
+    part-write-price-start-2
+    part-write-price-end-2
     write-price-requires
     add-at3
     sub-write-tail

@@ -1,8 +1,12 @@
 use Rattle.text.proofs.Writing.{rooms, then}
 use Rattle.rules.specs.Side.{tailText}
+use Rattle.trade.proofs.Columns.{no-tail-written}
 use borrow.Author.Needs.{needs}
 use Rattle.trade.proofs.write_tail.Statement.{statement}
 use Rattle.trade.proofs.write_tail.Tie as tie
+
+returns : tie.Need-returns
+returns c = search no-tail-written
 
 write-after-price-requires : tie.Need-write-after-price-requires
 unfolding tailText
@@ -27,14 +31,15 @@ add-result c = search needs
 same-length : tie.Need-same-length
 same-length c = search needs
 
-returns : tie.Need-returns
+returns-2 : tie.Need-returns-2
 unfolding tailText
-returns c = search then
+returns-2 c = search then
 
 pub write-tail-spec : {M : Type 1} → statement M
 write-tail-spec =
     tie.close
     (tie.spec
+    returns
     write-after-price-requires
     sub-write-at-end
     part-write-at-end-start
@@ -42,4 +47,4 @@ write-tail-spec =
     write-at-end-requires
     add-result
     same-length
-    returns)
+    returns-2)
