@@ -14,6 +14,7 @@ use mir.Val.{Fits}
 use Rattle.text.specs.Bytes.{bytes}
 use Rattle.text.specs.Pick.{pick, opt, among}
 use Rattle.text.specs.Put.{Written}
+use Rattle.text.proofs.Parts.{front}
 use Rattle.rules.specs.declared.Security.{Security}
 use Rattle.rules.specs.Tape.{isRaised}
 use Rattle.rules.specs.Columns.{word}
@@ -58,6 +59,13 @@ pub laid-word : {s b a : List ℕ} {m n : ℕ} → Written s b a m → WordOf s 
 laid-word {s} {b} {a} {m} {n} w h =
     let e : word s ++ drop n s ≡ s = rw (h .text-is) (take-append-drop n s) in
     laid-front (word s) (drop n s) n (laid-named e (laid-written w)) (h .count-is)
+
+-- written from bytes of its own
+pub own-word : {s z own b a : List ℕ} {k m n : ℕ} → Written s z own k → Written (take k own) b a m → WordOf s n → Laid (word s) b a n
+own-word v w h = laid-word (rw (front v) at w) h
+
+pub own-room : {s z own : List ℕ} {k : ℕ} (m : ℕ) → Written s z own k → length s ≤ m → length (take k own) ≤ m
+own-room m v h = rw (front v) h
 
 -- ---- the letter dot
 

@@ -101,18 +101,20 @@ fn dot_size(b: u8) -> usize
     unlike(b, 32) * unlike(b, b'p') * unlike(b, b'r') * unlike(b, b'w')
 }
 
-// Every column is laid; the text is their front.
+// Every column is laid; the text is their front. All are read before the first is written.
 fn lay_word(rest: &mut [u8], field: &[u8]) -> usize
-    requires { ⌜ length (now field) ≤ length (now rest) ⌝ }
+    requires { ⌜ (length (now field) ≤ 7) × (length (now field) ≤ length (now rest)) ⌝ }
     ensures { λ r. ⌜ Laid (word (now (field .entry))) (now (rest .entry)) (now (rest .exit)) r × (r ≤ length (now (field .entry))) ⌝ }
 {
-    text::write_bytes(rest, field);
+    let mut own = [0u8; 7];
+    let n = text::write_bytes(&mut own, field);
+    text::write_bytes(rest, &own[..n]);
     word_size(field)
 }
 
 // A part after the root.
 fn lay_part(rest: &mut [u8], field: &[u8]) -> usize
-    requires { ⌜ (1 ≤ length (now field)) × (length (now field) + 1 ≤ length (now rest)) ⌝ }
+    requires { ⌜ (1 ≤ length (now field)) × (length (now field) ≤ 7) × (length (now field) + 1 ≤ length (now rest)) ⌝ }
     ensures { λ r. ⌜ Laid (partText (word (now (field .entry)))) (now (rest .entry)) (now (rest .exit)) r × (r ≤ length (now (field .entry)) + 1) ⌝ }
 {
     rest[0] = b'.';
@@ -122,7 +124,7 @@ fn lay_part(rest: &mut [u8], field: &[u8]) -> usize
 
 // A part that is blank for most securities, or not shown.
 fn lay_shown(rest: &mut [u8], field: &[u8], shown: bool) -> usize
-    requires { ⌜ (1 ≤ length (now field)) × (length (now field) + 1 ≤ length (now rest)) ⌝ }
+    requires { ⌜ (1 ≤ length (now field)) × (length (now field) ≤ 7) × (length (now field) + 1 ≤ length (now rest)) ⌝ }
     ensures { λ r. ⌜ Laid (opt shown (partText (word (now (field .entry))))) (now (rest .entry)) (now (rest .exit)) r × (r ≤ length (now (field .entry)) + 1) ⌝ }
 {
     if !shown {

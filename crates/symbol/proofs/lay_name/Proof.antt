@@ -11,7 +11,7 @@ slice-aggregate-lay-word : tie.Need-slice-aggregate-lay-word
 slice-aggregate-lay-word c = let p = parts (c .before .before .before .before .args .name .now) (omega arith) in omega arith
 
 lay-word-requires : tie.Need-lay-word-requires
-lay-word-requires c κs = let p = parts (c .before .before .before .before .args .name .now) (omega arith) in omega arith
+lay-word-requires c κs = let p = parts (c .before .before .before .before .args .name .now) (omega arith) in (omega arith, omega arith)
 
 sub-lay-part : tie.Need-sub-lay-part
 sub-lay-part c = search needs
@@ -32,7 +32,7 @@ part-lay-part-end-2 : tie.Need-part-lay-part-end-2
 part-lay-part-end-2 c = search needs
 
 lay-part-requires : tie.Need-lay-part-requires
-lay-part-requires c κs = let p = parts (c .before .before .before .before .before .before .before .before .before .args .name .now) (omega arith) in (omega arith, laid-room _ (c .before .before .before .before .lay-word .ensures .0) (omega arith))
+lay-part-requires c κs = let p = parts (c .before .before .before .before .before .before .before .before .before .args .name .now) (omega arith) in (omega arith, omega arith, laid-room _ (c .before .before .before .before .lay-word .ensures .0) (omega arith))
 
 add-b : tie.Need-add-b
 add-b c = search needs
@@ -56,7 +56,7 @@ part-lay-shown-end-2 : tie.Need-part-lay-shown-end-2
 part-lay-shown-end-2 c = search needs
 
 lay-shown-requires : tie.Need-lay-shown-requires
-lay-shown-requires c κs = let p = parts (c .before .before .before .before .before .before .before .before .before .before .before .before .before .before .args .name .now) (omega arith) in (omega arith, laid-room _ (laid-then (c .before .before .before .before .before .before .before .before .before .lay-word .ensures .0) (c .before .before .before .before .lay-part .ensures .0)) (omega arith))
+lay-shown-requires c κs = let p = parts (c .before .before .before .before .before .before .before .before .before .before .before .before .before .before .args .name .now) (omega arith) in (omega arith, omega arith, laid-room _ (laid-then (c .before .before .before .before .before .before .before .before .before .lay-word .ensures .0) (c .before .before .before .before .lay-part .ensures .0)) (omega arith))
 
 add-c : tie.Need-add-c
 add-c c = search needs
@@ -80,7 +80,7 @@ part-lay-shown-end-4 : tie.Need-part-lay-shown-end-4
 part-lay-shown-end-4 c = search needs
 
 lay-shown-requires-2 : tie.Need-lay-shown-requires-2
-lay-shown-requires-2 c κs = let p = parts (c .before .before .before .before .before .before .before .before .before .before .before .before .before .before .before .before .before .before .before .args .name .now) (omega arith) in (omega arith, laid-room _ (laid-then (laid-then (c .before .before .before .before .before .before .before .before .before .before .before .before .before .before .lay-word .ensures .0) (c .before .before .before .before .before .before .before .before .before .lay-part .ensures .0)) (c .before .before .before .before .lay-shown .ensures .0)) (omega arith))
+lay-shown-requires-2 c κs = let p = parts (c .before .before .before .before .before .before .before .before .before .before .before .before .before .before .before .before .before .before .before .args .name .now) (omega arith) in (omega arith, omega arith, laid-room _ (laid-then (laid-then (c .before .before .before .before .before .before .before .before .before .before .before .before .before .before .lay-word .ensures .0) (c .before .before .before .before .before .before .before .before .before .lay-part .ensures .0)) (c .before .before .before .before .lay-shown .ensures .0)) (omega arith))
 
 add-result : tie.Need-add-result
 add-result c = search needs
