@@ -12,7 +12,7 @@ ghost use Rattle.text.specs.Put.{Written};
 ghost use Rattle.text.specs.Decimal.{decimal};
 ghost use Rattle.rules.specs.Volume.{volumeText};
 ghost use Rattle.rules.specs.Price.{wholeText, shortWhole, units, priceText};
-ghost use Rattle.amounts.specs.Columns.{Formed, VolumeColumns, PriceColumns};
+ghost use Rattle.amounts.specs.Columns.{VolumeColumns, PriceColumns};
 
 // ---- bytes by the move
 
@@ -68,47 +68,6 @@ fn digits_size(w: u64) -> usize
 
 // ---- the volume
 
-// How a volume is shown: without its last `cut` digits, then `size` bytes of the marks, from `mark` on.
-struct Form {
-    cut: usize,
-    mark: usize,
-    size: usize,
-}
-
-// In shares, in hundreds or in tens.
-fn form_of(network: u64, unit: u64, v: u64) -> Form
-    requires { ⌜ (1 ≤ unit) × (1 ≤ v) × (v < 10000) ⌝ }
-    ensures { λ r. ⌜ Formed network unit v r ⌝ }
-{
-    let odd = volumes::is_in_shares(network, unit, v);
-    if odd {
-        return Form {
-            cut: 0,
-            mark: 8,
-            size: 4,
-        };
-    }
-    if unit == 100 {
-        return Form {
-            cut: 2,
-            mark: 0,
-            size: 1,
-        };
-    }
-    if v % 10 == 0 {
-        return Form {
-            cut: 1,
-            mark: 4,
-            size: 1,
-        };
-    }
-    Form {
-        cut: 0,
-        mark: 8,
-        size: 4,
-    }
-}
-
 // k columns of digits, then a mark: all is read before the first byte is written.
 fn write_marked(
     rest: &mut [u8],
@@ -137,15 +96,14 @@ fn write_short(rest: &mut [u8], part: &[u8], network: u64, unit: u64, v: u64) ->
     requires { ⌜ (1 ≤ unit) × (v < 10000) × VolumeColumns (now part) v × (24 ≤ length (now rest)) ⌝ }
     ensures { λ r. ⌜ Written (volumeText network unit v) (now (rest .entry)) (now (rest .exit)) r ⌝ }
 {
-    let f = form_of(network, unit, v);
-    if v == 100 {
-        if f.mark == 0 {
-            return 0; // a hundred alone
-        }
+    let f = volumes::form_of(network, unit, v);
+    if volumes::is_unsaid(f.mark, v) {
+        return 0;
     }
     let k = digits_size(v) - f.cut;
     let from = 9 - f.cut - k;
-    write_marked(rest, part, b"s   $   SHRS", k, from, f.mark, f.size)
+    let marks = volumes::MARKS;
+    write_marked(rest, part, &marks, k, from, f.mark, f.size)
 }
 
 // Where it is shown. `part` is the side's columns, the volume in the first 9.

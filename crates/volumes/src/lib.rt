@@ -1,14 +1,15 @@
 // Volumes as texts (document 01, "Volume"): the length of each and its writer, which is lent the rest of the tape. One
 // writer serves all units and both networks.
 ghost use mathlib.Core.Path.{_≡_};
-ghost use Prim.Native.Nat.{_/_, _≤_};
+ghost use Prim.Native.Nat.{_/_, _^_, _≤_};
 ghost use mathlib.Core.Bool.{_&&_, _||_, not};
 ghost use mathlib.Core.List.{_++_};
 ghost use lib.Dec.{eqb, ltb};
 ghost use lib.ListN.{length};
 ghost use Rattle.text.specs.Put.{Written};
 ghost use Rattle.text.specs.Decimal.{decimal};
-ghost use Rattle.rules.specs.Volume.{group, fullVolume, isRound, inShares, inHundreds, inTens, volumeText};
+ghost use Rattle.rules.specs.Volume.{group, fullVolume, isRound, volumeText};
+ghost use Rattle.volumes.specs.Form.{Formed};
 
 // A figure dot and the last three digits of n.
 fn write_group(rest: &mut [u8], n: u64) -> usize
@@ -63,92 +64,51 @@ pub fn write_full_volume(rest: &mut [u8], n: u64) -> usize
     write_millions(rest, n)
 }
 
-// A full volume and its mark.
-fn write_marked(rest: &mut [u8], n: u64, mark: &[u8]) -> usize
-    requires { ⌜ length (fullVolume n ++ now mark) ≤ length (now rest) ⌝ }
-    ensures { λ r. ⌜ Written (fullVolume n ++ now (mark .entry)) (now (rest .entry)) (now (rest .exit)) r ⌝ }
-{
-    let at = write_full_volume(rest, n);
-    at + text::write_bytes(&mut rest[at..], mark)
+// ---- how a volume is shown (001, 3.3)
+
+// Its figures without their last `cut` digits, then `size` bytes of the marks, from `mark` on.
+pub struct Form {
+    pub cut: usize,
+    pub mark: usize,
+    pub size: usize,
 }
 
-// A count of hundreds or tens and its mark.
-fn write_count(rest: &mut [u8], n: u64, mark: &[u8]) -> usize
-    requires { ⌜ length (decimal n ++ now mark) ≤ length (now rest) ⌝ }
-    ensures { λ r. ⌜ Written (decimal n ++ now (mark .entry)) (now (rest .entry)) (now (rest .exit)) r ⌝ }
-{
-    let at = text::write_decimal(rest, n);
-    at + text::write_bytes(&mut rest[at..], mark)
-}
+// Of hundreds, tens and shares, each at a place that four divides.
+pub const MARKS: [u8; 12] = *b"s   $   SHRS";
 
-// Full, SHRS.
-fn shares_length(v: u64) -> usize
-    ensures { λ r. ⌜ (r ≡ length (inShares v)) × (r ≤ 32) ⌝ }
-{
-    full_volume_length(v) + 4
-}
+// The five forms: in shares; in hundreds and in tens, counted below 10,000 and in full from there up.
+const SHARES: Form = Form {
+    cut: 0,
+    mark: 8,
+    size: 4,
+};
 
-fn write_shares(rest: &mut [u8], v: u64) -> usize
-    requires { ⌜ length (inShares v) ≤ length (now rest) ⌝ }
-    ensures { λ r. ⌜ Written (inShares v) (now (rest .entry)) (now (rest .exit)) r ⌝ }
-{
-    write_marked(rest, v, b"SHRS")
-}
+const HUNDREDS: Form = Form {
+    cut: 2,
+    mark: 0,
+    size: 1,
+};
 
-// Unit 100.
-fn hundreds_length(v: u64) -> usize
-    ensures { λ r. ⌜ (r ≡ length (inHundreds v)) × (r ≤ 32) ⌝ }
-{
-    if v == 100 {
-        return 0;
-    }
-    if v < 10000 {
-        return text::decimal_length(v / 100) + 1;
-    }
-    full_volume_length(v) + 1
-}
+const TENS: Form = Form {
+    cut: 1,
+    mark: 4,
+    size: 1,
+};
 
-fn write_hundreds(rest: &mut [u8], v: u64) -> usize
-    requires { ⌜ length (inHundreds v) ≤ length (now rest) ⌝ }
-    ensures { λ r. ⌜ Written (inHundreds v) (now (rest .entry)) (now (rest .exit)) r ⌝ }
-{
-    if v == 100 {
-        return 0;
-    }
-    if v < 10000 {
-        return write_count(rest, v / 100, b"s");
-    }
-    write_marked(rest, v, b"s")
-}
+const FULL_HUNDREDS: Form = Form {
+    cut: 0,
+    mark: 0,
+    size: 1,
+};
 
-// Network A, unit below 100.
-fn tens_length(v: u64) -> usize
-    ensures { λ r. ⌜ (r ≡ length (inTens v)) × (r ≤ 32) ⌝ }
-{
-    if v < 10000 {
-        if v % 10 == 0 {
-            return text::decimal_length(v / 10) + 1;
-        }
-        return shares_length(v);
-    }
-    full_volume_length(v) + 1
-}
-
-fn write_tens(rest: &mut [u8], v: u64) -> usize
-    requires { ⌜ length (inTens v) ≤ length (now rest) ⌝ }
-    ensures { λ r. ⌜ Written (inTens v) (now (rest .entry)) (now (rest .exit)) r ⌝ }
-{
-    if v < 10000 {
-        if v % 10 == 0 {
-            return write_count(rest, v / 10, b"$");
-        }
-        return write_shares(rest, v);
-    }
-    write_marked(rest, v, b"$")
-}
+const FULL_TENS: Form = Form {
+    cut: 0,
+    mark: 4,
+    size: 1,
+};
 
 // Not round, or network B with unit below 100.
-pub fn is_in_shares(network: u64, unit: u64, v: u64) -> bool
+fn is_in_shares(network: u64, unit: u64, v: u64) -> bool
     requires { ⌜ 1 ≤ unit ⌝ }
     ensures { λ r. ⌜ r ≡ (not (isRound unit v) || (eqb network 66 && ltb unit 100)) ⌝ }
 {
@@ -161,30 +121,78 @@ pub fn is_in_shares(network: u64, unit: u64, v: u64) -> bool
     unit < 100
 }
 
+// The form of every volume is decided here.
+pub fn form_of(network: u64, unit: u64, v: u64) -> Form
+    requires { ⌜ 1 ≤ unit ⌝ }
+    ensures { λ r. ⌜ Formed network unit v r ⌝ }
+{
+    let odd = is_in_shares(network, unit, v);
+    if odd {
+        return SHARES;
+    }
+    if v < 10000 {
+        if unit == 100 {
+            return HUNDREDS;
+        }
+        if v % 10 == 0 {
+            return TENS;
+        }
+        return SHARES;
+    }
+    if unit == 100 {
+        return FULL_HUNDREDS;
+    }
+    FULL_TENS
+}
+
+// A hundred in hundreds prints nothing.
+pub fn is_unsaid(mark: usize, v: u64) -> bool
+    ensures { λ r. ⌜ r ≡ (eqb mark 0 && eqb v 100) ⌝ }
+{
+    if mark != 0 {
+        return false;
+    }
+    v == 100
+}
+
+// A volume without its last `cut` digits.
+fn figures_of(v: u64, cut: usize) -> u64
+    requires { ⌜ cut ≤ 2 ⌝ }
+    ensures { λ r. ⌜ r ≡ v / 10 ^ cut ⌝ }
+{
+    if cut == 0 {
+        return v;
+    }
+    if cut == 1 {
+        return v / 10;
+    }
+    v / 100
+}
+
 pub fn volume_length(network: u64, unit: u64, v: u64) -> usize
     requires { ⌜ 1 ≤ unit ⌝ }
     ensures { λ r. ⌜ (r ≡ length (volumeText network unit v)) × (r ≤ 32) ⌝ }
 {
-    let odd = is_in_shares(network, unit, v);
-    if odd {
-        return shares_length(v);
+    let f = form_of(network, unit, v);
+    if is_unsaid(f.mark, v) {
+        return 0;
     }
-    if unit == 100 {
-        return hundreds_length(v);
-    }
-    tens_length(v)
+    let n = figures_of(v, f.cut);
+    full_volume_length(n) + f.size
 }
 
 pub fn write_volume(rest: &mut [u8], network: u64, unit: u64, v: u64) -> usize
     requires { ⌜ (1 ≤ unit) × (length (volumeText network unit v) ≤ length (now rest)) ⌝ }
     ensures { λ r. ⌜ Written (volumeText network unit v) (now (rest .entry)) (now (rest .exit)) r ⌝ }
 {
-    let odd = is_in_shares(network, unit, v);
-    if odd {
-        return write_shares(rest, v);
+    let f = form_of(network, unit, v);
+    if is_unsaid(f.mark, v) {
+        return 0;
     }
-    if unit == 100 {
-        return write_hundreds(rest, v);
-    }
-    write_tens(rest, v)
+    let n = figures_of(v, f.cut);
+    let at = write_full_volume(rest, n);
+    let marks = MARKS;
+    let from = f.mark;
+    let to = from + f.size;
+    at + text::write_bytes(&mut rest[at..], &marks[from..to])
 }

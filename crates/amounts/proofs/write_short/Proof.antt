@@ -1,5 +1,5 @@
-use mathlib.Core.Logic.{⊎-elim}
-use Rattle.amounts.proofs.Volumes.{cut-digits, few-digits, written-hundred, written-mark, written-other}
+use Rattle.volumes.proofs.Forms.{unsaid-written}
+use Rattle.amounts.proofs.Volumes.{cut-digits, few-digits, short-written}
 use borrow.Author.Needs.{needs}
 use Rattle.amounts.proofs.write_short.Statement.{statement}
 use Rattle.amounts.proofs.write_short.Tie as tie
@@ -7,8 +7,11 @@ use Rattle.amounts.proofs.write_short.Tie as tie
 form-of-requires : tie.Need-form-of-requires
 form-of-requires c κs = search needs
 
+is-unsaid-requires : tie.Need-is-unsaid-requires
+is-unsaid-requires c κs = search needs
+
 returns : tie.Need-returns
-returns c = search written-hundred
+returns c = search unsaid-written
 
 digits-size-requires : tie.Need-digits-size-requires
 digits-size-requires c κs = search needs
@@ -32,13 +35,14 @@ same-length : tie.Need-same-length
 same-length c = search needs
 
 returns-2 : tie.Need-returns-2
-returns-2 c = ⊎-elim (λ w. search written-mark) (λ w. search written-other) (c .before .before .before .before .before .before .before .before .if1 .came)
+returns-2 c = search short-written
 
 pub write-short-spec : {M : Type 1} → statement M
 write-short-spec =
     tie.close
     (tie.spec
     form-of-requires
+    is-unsaid-requires
     returns
     digits-size-requires
     sub-k

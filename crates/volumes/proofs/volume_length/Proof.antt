@@ -1,42 +1,37 @@
-use Rattle.text.proofs.Writing.{choices}
-use Rattle.text.proofs.Tests.{told}
-use Rattle.rules.specs.Volume.{volumeText}
+use Rattle.volumes.proofs.Forms.{unsaid-long, said-long}
 use borrow.Author.Needs.{needs}
 use Rattle.volumes.proofs.volume_length.Statement.{statement}
 use Rattle.volumes.proofs.volume_length.Tie as tie
 
-is-in-shares-requires : tie.Need-is-in-shares-requires
-is-in-shares-requires c κs = search needs
+form-of-requires : tie.Need-form-of-requires
+form-of-requires c κs = search needs
 
-shares-length-requires : tie.Need-shares-length-requires
-shares-length-requires c κs = search needs
+is-unsaid-requires : tie.Need-is-unsaid-requires
+is-unsaid-requires c κs = search needs
 
 returns : tie.Need-returns
-unfolding volumeText
-returns c = (search (choices, told), search needs)
+returns c = (search unsaid-long, search needs)
 
-hundreds-length-requires : tie.Need-hundreds-length-requires
-hundreds-length-requires c κs = search needs
+figures-of-requires : tie.Need-figures-of-requires
+figures-of-requires c κs = search needs
+
+full-volume-length-requires : tie.Need-full-volume-length-requires
+full-volume-length-requires c κs = search needs
+
+add-result : tie.Need-add-result
+add-result c = search needs
 
 returns-2 : tie.Need-returns-2
-unfolding volumeText
-returns-2 c = (search (choices, told), search needs)
-
-tens-length-requires : tie.Need-tens-length-requires
-tens-length-requires c κs = search needs
-
-returns-3 : tie.Need-returns-3
-unfolding volumeText
-returns-3 c = (search (choices, told), search needs)
+returns-2 c = (search said-long, search needs)
 
 pub volume-length-spec : {M : Type 1} → statement M
 volume-length-spec =
     tie.close
     (tie.spec
-    is-in-shares-requires
-    shares-length-requires
+    form-of-requires
+    is-unsaid-requires
     returns
-    hundreds-length-requires
-    returns-2
-    tens-length-requires
-    returns-3)
+    figures-of-requires
+    full-volume-length-requires
+    add-result
+    returns-2)
