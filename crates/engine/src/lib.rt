@@ -103,8 +103,8 @@ pub fn take_trade(
     take_good(st, table, names, line, t, tape)
 }
 
-// Every other line: by its plan.
-fn take_other(
+// Any line, by its plan. Whoever calls it hands trades to `take_trade` first.
+pub fn take_by_plan(
     st: Settings,
     table: &mut [u64; 5632],
     names: &mut [u8; 9728],
@@ -141,5 +141,5 @@ pub fn take_line(
             settings: st,
         };
     }
-    take_other(st, table, names, line, tape)
+    take_by_plan(st, table, names, line, tape)
 }

@@ -1,21 +1,20 @@
--- A block: what holds from turn to turn, and its steps. Assumes nothing.
-use Prim.Native.Nat.{ℕ, suc, _+_, _-_, _≤_, _<_}
+-- A block and a last line: what holds from turn to turn, and its steps. Assumes nothing.
+use Prim.Native.Nat.{ℕ, _+_, _-_, _≤_, _<_}
 use native.Mathlib.Omega.{arith}
-use native.Mathlib.Numerals.{add-one}
 use mathlib.Core.Path.{_≡_, refl, sym, ap, _∙_}
 use mathlib.Core.Bool.{Bool, true, false, _&&_, not}
-use mathlib.Core.List.{List, [], _∷_, _++_}
+use mathlib.Core.List.{List, [], _∷_}
 use lib.Dec.{leb}
-use lib.ListN.{length, take, drop, length-take, length-drop}
+use lib.ListN.{length, take, drop, length-drop}
 use lib.Seq.{take-all}
-use borrow.Author.Tests.{leb-true, not-true, not-false}
-use Rattle.text.specs.Put.{put, Written}
+use borrow.Author.Tests.{leb-true, not-true, not-false, lt-ltb, le-ltb}
+use Rattle.text.specs.Pick.{pick}
 use Rattle.text.proofs.Writing.{written-nothing, length-put}
 use Rattle.rules.specs.declared.Settings.{Settings}
-use Rattle.blocks.specs.Lines.{lineEnd, cut}
-use Rattle.lines.specs.Feed.{Progress, started, carried, lineTaken, roomLeft, linesTaken, blockTaken, Stands, Steps, Here, Runs, Onward}
+use Rattle.blocks.specs.Lines.{lineEnd, Cut}
+use Rattle.lines.specs.Feed.{Progress, started, lineTaken, roomLeft, linesTaken, blockTaken, linesFrom, Stands, Steps, Here, Runs}
 use Rattle.lines.specs.declared.Fed.{Fed}
-use Rattle.blocks.proofs.Cuts.{end-after, next-line, no-line}
+use Rattle.blocks.proofs.Cuts.{cut-none, next-line}
 
 -- ---- the two equations of `linesTaken`
 
@@ -49,18 +48,35 @@ module _ (tape refusals n k number : ℕ) (h : roomLeft tape refusals n k number
   pub room-number : number ≤ 9999999999
   room-number = leb-true number 9999999999 (told-and-number .1)
 
--- ---- from turn to turn: the reading stands somewhere, its line ends at `end`, and going on from there leads where the whole block leads
+-- ---- the lines ahead of a place
 
-pub record Turn (block tape₀ refusals₀ : List ℕ) (goal : Progress) (table names tape refusals : List ℕ) (f : Fed) (end : ℕ) : Type 0 where
-  pub p : Progress
-  pub stands : Stands tape₀ refusals₀ p table names tape refusals f
-  pub within : f .at ≤ length block
-  pub end-is : end ≡ lineEnd block (f .at)
-  pub tape-in : f .tape ≤ length tape
-  pub refusals-in : f .refusals ≤ length refusals
-  pub tape-same : length tape ≡ length tape₀
-  pub refusals-same : length refusals ≡ length refusals₀
-  pub onward : linesTaken (length tape₀) (length refusals₀) (cut (drop (f .at) block) .ended) p ≡ goal
+module _ (block : List ℕ) (at end : ℕ) (is : end ≡ lineEnd block at) where
+  pub from-to : at ≤ end
+  unfolding lineEnd
+  from-to = omega arith
+
+  pub line-then : end < length block → linesFrom false block at ≡ take (end - at) (drop at block) ∷ linesFrom false block (end + 1)
+  unfolding linesFrom
+  line-then more = next-line block at end is (omega (arith, from-to)) more
+
+  no-feed : length block ≤ end → linesFrom false block at ≡ []
+  unfolding linesFrom lineEnd
+  no-feed l = ap (λ (c : Cut). c .ended) (cut-none (drop at block) (omega (arith, length-drop at block)))
+
+last-whole : (line : List ℕ) → linesFrom true line 0 ≡ line ∷ []
+unfolding linesFrom pick
+last-whole line = rw (le-ltb (length line) 0 (omega arith))
+
+module _ (line : List ℕ) (at : ℕ) where
+  pub last-then : at ≤ length line → linesFrom true line at ≡ take (length line - at) (drop at line) ∷ linesFrom true line (length line + 1)
+  unfolding linesFrom pick
+  last-then l = rw (le-ltb (length line) at l, lt-ltb (length line) (length line + 1) (omega arith), take-all (length line - at) (drop at line) (omega (arith, length-drop at line)))
+
+  last-read : length line < at → linesFrom true line at ≡ []
+  unfolding linesFrom pick
+  last-read l = rw (lt-ltb (length line) at l)
+
+-- ---- wherever the reading stands
 
 module _ {tape₀ refusals₀ table names tape refusals : List ℕ} {p : Progress} {f : Fed} (s : Stands tape₀ refusals₀ p table names tape refusals f) where
   tape-length : length tape ≡ length tape₀
@@ -73,141 +89,116 @@ module _ {tape₀ refusals₀ table names tape refusals : List ℕ} {p : Progres
   room-same : roomLeft (length tape) (length refusals) (f .tape) (f .refusals) (f .number) ≡ roomLeft (length tape₀) (length refusals₀) (length (p .tape)) (length (p .refusals)) (p .number)
   room-same = rw (tape-length, refusals-length, s .tape-is .count-is, s .refusals-is .count-is, s .number-is)
 
-module _ {block tape₀ refusals₀ : List ℕ} {goal : Progress} {table names tape refusals : List ℕ} {f : Fed} where
-  pub turn-of : Here block tape₀ refusals₀ goal table names tape refusals f → (end : ℕ) → end ≡ lineEnd block (f .at) → Turn block tape₀ refusals₀ goal table names tape refusals f end
-  turn-of h end e =
-      let s = h .stands in
-      record {
-        p = h .p;
-        stands = s;
-        within = h .within;
-        end-is = e;
-        tape-in = omega (arith, tape-length s, s .tape-is .within);
-        refusals-in = omega (arith, refusals-length s, s .refusals-is .within);
-        tape-same = tape-length s;
-        refusals-same = refusals-length s;
-        onward = h .onward;
-      }
+module _ {last : Bool} {block tape₀ refusals₀ : List ℕ} {goal : Progress} {table names tape refusals : List ℕ} {f : Fed} (h : Here last block tape₀ refusals₀ goal table names tape refusals f) where
+  leads : (ls : List (List ℕ)) → linesFrom last block (f .at) ≡ ls → linesTaken (length tape₀) (length refusals₀) ls (h .p) ≡ goal
+  leads ls e = ap (λ (x : List (List ℕ)). linesTaken (length tape₀) (length refusals₀) x (h .p)) (sym e) ∙ h .onward
 
-  pub here-of : {end : ℕ} → Turn block tape₀ refusals₀ goal table names tape refusals f end → Here block tape₀ refusals₀ goal table names tape refusals f
-  here-of h = record { p = h .p; stands = h .stands; within = h .within; onward = h .onward }
-
--- where a reading starts
-pub stands-start : (st : Settings) (table names tape refusals : List ℕ) (number : ℕ)
-    → Stands tape refusals (started st table names number) table names tape refusals (record { settings = st; number = number; at = 0; tape = 0; refusals = 0 })
-stands-start st table names tape refusals number =
-    record { settings-is = refl; number-is = refl; at-is = refl; table-is = refl; names-is = refl; tape-is = written-nothing tape; refusals-is = written-nothing refusals }
-
-pub here-start : (block : List ℕ) (st : Settings) (table names tape refusals : List ℕ) (number end : ℕ) → end ≡ lineEnd block 0
-    → Turn block tape refusals (blockTaken (length tape) (length refusals) block (started st table names number)) table names tape refusals (record { settings = st; number = number; at = 0; tape = 0; refusals = 0 }) end
-unfolding blockTaken
-here-start block st table names tape refusals number end e =
-    record { p = started st table names number; stands = stands-start st table names tape refusals number; within = omega arith; end-is = e; tape-in = omega arith; refusals-in = omega arith; tape-same = refl; refusals-same = refl; onward = refl }
-
-module _ (block tape₀ refusals₀ : List ℕ) (goal : Progress) (table names tape refusals : List ℕ) (f : Fed) (end : ℕ) (h : Turn block tape₀ refusals₀ goal table names tape refusals f end) where
-  pub here-from : f .at ≤ end
-  here-from = end-after block (f .at) end (h .end-is) (h .within)
-
-  -- no line feed is left
-  pub here-end : length block ≤ end → Stands tape₀ refusals₀ goal table names tape refusals f
-  here-end l =
-      let none : cut (drop (f .at) block) .ended ≡ [] = no-line block (f .at) end (h .end-is) (h .within) l in
-      let is : h .p ≡ goal = sym (taken-none (length tape₀) (length refusals₀) (h .p)) ∙ (ap (λ (ls : List (List ℕ)). linesTaken (length tape₀) (length refusals₀) ls (h .p)) (sym none) ∙ h .onward) in
+  -- no line is ahead
+  none-ahead : linesFrom last block (f .at) ≡ [] → Stands tape₀ refusals₀ goal table names tape refusals f
+  none-ahead e =
+      let is : h .p ≡ goal = sym (taken-none (length tape₀) (length refusals₀) (h .p)) ∙ leads [] e in
       rw (← is) (h .stands)
 
-  module _ (more : end < length block) where
-    abbrev line : List ℕ
-    line = take (end - f .at) (drop (f .at) block)
+  module _ (l : List ℕ) (ls : List (List ℕ)) (e : linesFrom last block (f .at) ≡ l ∷ ls) where
+    -- a line is ahead, and there is no room for it
+    no-room : roomLeft (length tape) (length refusals) (f .tape) (f .refusals) (f .number) ≡ false → Stands tape₀ refusals₀ goal table names tape refusals f
+    no-room room =
+        let is : h .p ≡ goal = sym (taken-off (length tape₀) (length refusals₀) l ls (h .p) (sym (room-same (h .stands)) ∙ room)) ∙ leads (l ∷ ls) e in
+        rw (← is) (h .stands)
 
-    abbrev later : List (List ℕ)
-    later = cut (drop (end + 1) block) .ended
+    -- there is, and it was taken
+    pub here-next : roomLeft (length tape) (length refusals) (f .tape) (f .refusals) (f .number) ≡ true → (table′ names′ tape′ refusals′ : List ℕ) (r : Fed)
+        → Steps l table names tape refusals f table′ names′ tape′ refusals′ r → linesFrom last block (r .at) ≡ ls → Here last block tape₀ refusals₀ goal table′ names′ tape′ refusals′ r
+    here-next room table′ names′ tape′ refusals′ r w past =
+        record {
+          p = lineTaken (length tape₀) l (h .p);
+          stands = w tape₀ refusals₀ (h .p) (h .stands);
+          onward = rw past (sym (taken-on (length tape₀) (length refusals₀) l ls (h .p) (sym (room-same (h .stands)) ∙ room)) ∙ leads (l ∷ ls) e);
+        }
 
-    split : cut (drop (f .at) block) .ended ≡ line ∷ later
-    split = next-line block (f .at) end (h .end-is) (h .within) more
-
-    -- as the code has it: `t` is the answer of the test
-    module _ (t : Bool) (tells : t ≡ roomLeft (length tape) (length refusals) (f .tape) (f .refusals) (f .number)) where
-      -- there is no room for another line
-      pub here-stop : not t ≡ true → Stands tape₀ refusals₀ goal table names tape refusals f
-      here-stop e =
-          let off = taken-off (length tape₀) (length refusals₀) line later (h .p) (sym (room-same (h .stands)) ∙ (sym tells ∙ not-true t e)) in
-          let is : h .p ≡ goal = sym off ∙ (ap (λ (ls : List (List ℕ)). linesTaken (length tape₀) (length refusals₀) ls (h .p)) (sym split) ∙ h .onward) in
-          rw (← is) (h .stands)
-
-      -- there is
-      module _ (room : not t ≡ false) where
-        holds : roomLeft (length tape) (length refusals) (f .tape) (f .refusals) (f .number) ≡ true
-        holds = sym tells ∙ not-false t room
-
-        pub here-told : 14 ≤ length refusals - f .refusals
-        here-told = room-told (length tape) (length refusals) (f .tape) (f .refusals) (f .number) holds
-
-        pub here-number : f .number ≤ 9999999999
-        here-number = room-number (length tape) (length refusals) (f .tape) (f .refusals) (f .number) holds
-
-        -- the line, and the plain trades behind it
-        module _ (table′ names′ tape′ refusals′ : List ℕ) (r : Fed) (w : Onward block end table names tape refusals f table′ names′ tape′ refusals′ r) where
-          pub here-less : length block - r .at < length block - f .at
-          here-less = omega (arith, w .ahead, here-from)
-
-          pub here-on : (end′ : ℕ) → end′ ≡ lineEnd block (r .at) → Turn block tape₀ refusals₀ goal table′ names′ tape′ refusals′ r end′
-          here-on end′ q = turn-of (w .to tape₀ refusals₀ goal (here-of h) (h .end-is) holds) end′ q
-
--- ---- a line, from wherever the reading stands
-
-module _ (block tape₀ refusals₀ : List ℕ) (goal : Progress) (table names tape refusals : List ℕ) (f : Fed) (h : Here block tape₀ refusals₀ goal table names tape refusals f) (end : ℕ) (is : end ≡ lineEnd block (f .at)) (more : end < length block)
-    (room : roomLeft (length tape) (length refusals) (f .tape) (f .refusals) (f .number) ≡ true) (table′ names′ tape′ refusals′ : List ℕ) (r : Fed) (w : Steps (take (end - f .at) (drop (f .at) block)) table names tape refusals f table′ names′ tape′ refusals′ r) where
-  abbrev this : List ℕ
-  this = take (end - f .at) (drop (f .at) block)
-
-  abbrev others : List (List ℕ)
-  others = cut (drop (end + 1) block) .ended
-
-  past : r .at ≡ end + 1
-  unfolding lineTaken carried
-  past =
-      let l : length this ≡ end - f .at = simp (length-take, length-drop) (omega arith) in
-      w tape₀ refusals₀ (h .p) (h .stands) .at-is ∙ omega (arith, end-after block (f .at) end is (h .within), h .stands .at-is, l)
-
-  pub here-next : Here block tape₀ refusals₀ goal table′ names′ tape′ refusals′ r
-  here-next =
-      let on = taken-on (length tape₀) (length refusals₀) this others (h .p) (sym (room-same (h .stands)) ∙ room) in
-      let split = next-line block (f .at) end is (h .within) more in
-      record {
-        p = lineTaken (length tape₀) this (h .p);
-        stands = w tape₀ refusals₀ (h .p) (h .stands);
-        within = omega (arith, past);
-        onward = rw past (sym on ∙ (ap (λ (ls : List (List ℕ)). linesTaken (length tape₀) (length refusals₀) ls (h .p)) (sym split) ∙ h .onward));
-      }
-
--- the line, then what runs behind it
-pub next-fed : (block : List ℕ) (f : Fed) (end : ℕ) (table names tape refusals table₁ names₁ tape₁ refusals₁ : List ℕ) (g : Fed) (table′ tape′ : List ℕ) (r : Fed)
-    → Steps (take (end - f .at) (drop (f .at) block)) table names tape refusals f table₁ names₁ tape₁ refusals₁ g → g .at ≡ end + 1 → Runs block names₁ refusals₁ table₁ tape₁ g table′ tape′ r → end < length block
-    → Onward block end table names tape refusals f table′ names₁ tape′ refusals₁ r
-next-fed block f end table names tape refusals table₁ names₁ tape₁ refusals₁ g table′ tape′ r w past on more =
+-- where a reading starts
+here-start : (last : Bool) (block : List ℕ) (st : Settings) (table names tape refusals : List ℕ) (number : ℕ)
+    → Here last block tape refusals (linesTaken (length tape) (length refusals) (linesFrom last block 0) (started st table names number)) table names tape refusals (record { settings = st; number = number; at = 0; tape = 0; refusals = 0 })
+here-start last block st table names tape refusals number =
     record {
-      to = λ tape₀ refusals₀ goal h is room. on .to tape₀ refusals₀ goal (here-next block tape₀ refusals₀ goal table names tape refusals f h end is more room table₁ names₁ tape₁ refusals₁ g w);
-      ahead = omega (arith, on .ahead);
+      p = started st table names number;
+      stands = record { settings-is = refl; number-is = refl; at-is = refl; table-is = refl; names-is = refl; tape-is = written-nothing tape; refusals-is = written-nothing refusals };
+      onward = refl;
     }
 
--- ---- one line that no line feed ends
+-- as the code has it: `t` is the answer of the test of the room
+module _ (tape refusals n k number : ℕ) (t : Bool) (tells : t ≡ roomLeft tape refusals n k number) (room : not t ≡ false) where
+  pub here-told : 14 ≤ refusals - k
+  here-told = room-told tape refusals n k number (sym tells ∙ not-false t room)
 
-module _ (st : Settings) (line table names tape refusals : List ℕ) (number : ℕ) (t : Bool) (tells : t ≡ roomLeft (length tape) (length refusals) 0 0 number) where
-  pub last-stop : not t ≡ true
-      → Stands tape refusals (linesTaken (length tape) (length refusals) (line ∷ []) (started st table names number)) table names tape refusals (record { settings = st; number = number; at = 0; tape = 0; refusals = 0 })
-  last-stop e = rw (taken-off (length tape) (length refusals) line [] (started st table names number) (sym tells ∙ not-true t e)) (stands-start st table names tape refusals number)
+  pub here-number : number ≤ 9999999999
+  here-number = room-number tape refusals n k number (sym tells ∙ not-false t room)
 
-  module _ (room : not t ≡ false) where
-    pub last-told : 14 ≤ length refusals - 0
-    last-told = room-told (length tape) (length refusals) 0 0 number (sym tells ∙ not-false t room)
+-- ---- a block, from turn to turn: the reading stands somewhere, and going on from there leads where the whole block leads
 
-    pub last-number : number ≤ 9999999999
-    last-number = room-number (length tape) (length refusals) 0 0 number (sym tells ∙ not-false t room)
+pub record Turn (block tape₀ refusals₀ : List ℕ) (goal : Progress) (table names tape refusals : List ℕ) (f : Fed) : Type 0 where
+  pub here : Here false block tape₀ refusals₀ goal table names tape refusals f
+  pub tape-in : f .tape ≤ length tape
+  pub refusals-in : f .refusals ≤ length refusals
+  pub tape-same : length tape ≡ length tape₀
+  pub refusals-same : length refusals ≡ length refusals₀
 
-    pub last-on : (table′ names′ tape′ refusals′ : List ℕ) (r : Fed)
-        → Steps (take (length line - 0) (drop 0 line)) table names tape refusals (record { settings = st; number = number; at = 0; tape = 0; refusals = 0 }) table′ names′ tape′ refusals′ r
-        → Stands tape refusals (linesTaken (length tape) (length refusals) (line ∷ []) (started st table names number)) table′ names′ tape′ refusals′ r
-    last-on table′ names′ tape′ refusals′ r w =
-        let on = taken-on (length tape) (length refusals) line [] (started st table names number) (sym tells ∙ not-false t room) ∙ taken-none (length tape) (length refusals) (lineTaken (length tape) line (started st table names number)) in
-        let e : take (length line - 0) line ≡ line = take-all (length line - 0) line (omega arith) in
-        rw on (rw e at (w tape refusals (started st table names number) (stands-start st table names tape refusals number)))
+turn-of : {block tape₀ refusals₀ : List ℕ} {goal : Progress} {table names tape refusals : List ℕ} {f : Fed} → Here false block tape₀ refusals₀ goal table names tape refusals f → Turn block tape₀ refusals₀ goal table names tape refusals f
+turn-of h =
+    let s = h .stands in
+    record { here = h; tape-in = omega (arith, tape-length s, s .tape-is .within); refusals-in = omega (arith, refusals-length s, s .refusals-is .within); tape-same = tape-length s; refusals-same = refusals-length s }
+
+pub turn-start : (block : List ℕ) (st : Settings) (table names tape refusals : List ℕ) (number : ℕ)
+    → Turn block tape refusals (blockTaken (length tape) (length refusals) block (started st table names number)) table names tape refusals (record { settings = st; number = number; at = 0; tape = 0; refusals = 0 })
+unfolding blockTaken linesFrom
+turn-start block st table names tape refusals number = turn-of (here-start false block st table names tape refusals number)
+
+pub turn-less : (block : List ℕ) (at from end next : ℕ) → at ≤ from → end ≡ lineEnd block from → end < length block → next ≡ end + 1 → length block - next < length block - at
+turn-less block at from end next l is more past = omega (arith, from-to block from end is)
+
+module _ {block tape₀ refusals₀ : List ℕ} {goal : Progress} {table names tape refusals : List ℕ} {f : Fed} (h : Turn block tape₀ refusals₀ goal table names tape refusals f) where
+  -- all is read
+  pub turn-end : length block ≤ f .at → Stands tape₀ refusals₀ goal table names tape refusals f
+  turn-end l = none-ahead (h .here) (no-feed block (f .at) (lineEnd block (f .at)) refl (omega (arith, from-to block (f .at) (lineEnd block (f .at)) refl)))
+
+  -- after the trades
+  module _ {table₁ tape₁ : List ℕ} {g : Fed} (w : Runs false block names refusals table tape f table₁ tape₁ g) where
+    next : Here false block tape₀ refusals₀ goal table₁ names tape₁ refusals g
+    next = w .to tape₀ refusals₀ goal (h .here)
+
+    module _ {end : ℕ} (is : end ≡ lineEnd block (g .at)) where
+      -- no line feed is left
+      pub turn-none : length block ≤ end → Stands tape₀ refusals₀ goal table₁ names tape₁ refusals g
+      turn-none l = none-ahead next (no-feed block (g .at) end is l)
+
+      module _ (more : end < length block) {t : Bool} (tells : t ≡ roomLeft (length tape₁) (length refusals) (g .tape) (g .refusals) (g .number)) where
+        -- no room for the line that it ends
+        pub turn-stop : not t ≡ true → Stands tape₀ refusals₀ goal table₁ names tape₁ refusals g
+        turn-stop e = no-room next _ _ (line-then block (g .at) end is more) (sym tells ∙ not-true t e)
+
+        module _ (room : not t ≡ false) {table′ names′ tape′ refusals′ : List ℕ} {r : Fed} (s : Steps (take (end - g .at) (drop (g .at) block)) table₁ names tape₁ refusals g table′ names′ tape′ refusals′ r) (past : r .at ≡ end + 1) where
+          pub turn-on : Turn block tape₀ refusals₀ goal table′ names′ tape′ refusals′ r
+          turn-on = turn-of (here-next next _ _ (line-then block (g .at) end is more) (sym tells ∙ not-false t room) table′ names′ tape′ refusals′ r s (ap (linesFrom false block) past))
+
+-- ---- one line that no line feed ends, after the look for a trade
+
+module _ {st : Settings} {line table names tape refusals : List ℕ} {number : ℕ} {table₁ tape₁ : List ℕ} {f : Fed}
+    (w : Runs true line names refusals table tape (record { settings = st; number = number; at = 0; tape = 0; refusals = 0 }) table₁ tape₁ f) where
+  abbrev goal : Progress
+  goal = linesTaken (length tape) (length refusals) (line ∷ []) (started st table names number)
+
+  here : Here true line tape refusals goal table₁ names tape₁ refusals f
+  here = w .to tape refusals goal (rw (last-whole line) at (here-start true line st table names tape refusals number))
+
+  -- it was one
+  pub last-trade : length line < f .at → Stands tape refusals goal table₁ names tape₁ refusals f
+  last-trade l = none-ahead here (last-read line (f .at) l)
+
+  module _ (left : f .at ≤ length line) {t : Bool} (tells : t ≡ roomLeft (length tape₁) (length refusals) (f .tape) (f .refusals) (f .number)) where
+    pub last-stop : not t ≡ true → Stands tape refusals goal table₁ names tape₁ refusals f
+    last-stop e = no-room here _ _ (last-then line (f .at) left) (sym tells ∙ not-true t e)
+
+    pub last-on : not t ≡ false → (table′ names′ tape′ refusals′ : List ℕ) (r : Fed) → Steps (take (length line - f .at) (drop (f .at) line)) table₁ names tape₁ refusals f table′ names′ tape′ refusals′ r → r .at ≡ length line + 1
+        → Stands tape refusals goal table′ names′ tape′ refusals′ r
+    last-on e table′ names′ tape′ refusals′ r s past =
+        none-ahead (here-next here _ _ (last-then line (f .at) left) (sym tells ∙ not-false t e) table′ names′ tape′ refusals′ r s (ap (linesFrom true line) past)) (last-read line (r .at) (omega arith))

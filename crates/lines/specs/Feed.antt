@@ -1,10 +1,11 @@
 -- What a block of input does (document 01, "Shown facts and the whole day"): its lines go to the engine one after the other, prints and refusals are gathered. Assumes nothing.
-use Prim.Native.Nat.{ℕ, _+_, _-_, _≤_, _<_}
+use Prim.Native.Nat.{ℕ, _+_, _-_, _≤_}
 use mathlib.Core.Path.{_≡_}
 use mathlib.Core.Bool.{Bool, true, false, _&&_}
 use mathlib.Core.List.{List, [], _∷_, _++_}
-use lib.Dec.{leb}
+use lib.Dec.{eqb, leb, ltb}
 use lib.ListN.{length, drop}
+use Rattle.text.specs.Pick.{pick}
 use Rattle.text.specs.Put.{Written}
 use Rattle.rules.specs.Refusal.{numberOf}
 use Rattle.rules.specs.declared.Settings.{Settings}
@@ -14,7 +15,7 @@ use Rattle.engine.specs.declared.Outcome.the-variants.{Accepted, Refused}
 use Rattle.engine.specs.Taken.{asked, outcomeOf}
 use Rattle.planprint.specs.Print.{printOf}
 use Rattle.planstate.specs.After.{settingsAfter, tableAfter, namesAfter}
-use Rattle.blocks.specs.Lines.{lineEnd, cut}
+use Rattle.blocks.specs.Lines.{endsAt, cut}
 use Rattle.lines.specs.Refusals.{refusalLine}
 use Rattle.lines.specs.declared.Fed.{Fed}
 
@@ -77,6 +78,17 @@ linesTaken tape refusals (l ∷ ls) f =
 unfoldable pub blockTaken : ℕ → ℕ → List ℕ → Progress → Progress
 blockTaken tape refusals block f = linesTaken tape refusals (cut block .ended) f
 
+-- ---- from a place on, in a block, or (`true`) in a last line, which no line feed ends
+
+-- the lines ahead: of a block those that a line feed ends, of a last line what is left of it, until its end is read
+unfoldable pub linesFrom : Bool → List ℕ → ℕ → List (List ℕ)
+linesFrom false block at = cut (drop at block) .ended
+linesFrom true line at = pick (ltb (length line) at) [] (drop at line ∷ [])
+
+-- a line ends at a place: a last line where the block ends, any other at a line feed
+unfoldable pub endsLine : Bool → List ℕ → ℕ → Bool
+endsLine last block at = pick last (eqb at (length block)) (endsAt block at)
+
 -- ---- the promise of `feed`, `feed_last` and each step: the answer, both tables, the lent tape and the lent refusals at exit, which held `tape₀` and `refusals₀` at the start
 pub record Stands (tape₀ refusals₀ : List ℕ) (p : Progress) (table names tape refusals : List ℕ) (f : Fed) : Type 0 where
   pub settings-is : f .settings ≡ p .settings
@@ -93,21 +105,15 @@ Steps line table names tape refusals f table′ names′ tape′ refusals′ r =
     (tape₀ refusals₀ : List ℕ) (p : Progress) → Stands tape₀ refusals₀ p table names tape refusals f
     → Stands tape₀ refusals₀ (lineTaken (length tape₀) line p) table′ names′ tape′ refusals′ r
 
--- the reading stands somewhere in the block, and going on from there leads to `goal`
-pub record Here (block tape₀ refusals₀ : List ℕ) (goal : Progress) (table names tape refusals : List ℕ) (f : Fed) : Type 0 where
+-- the reading stands somewhere in the block, and the lines ahead lead to `goal`
+pub record Here (last : Bool) (block tape₀ refusals₀ : List ℕ) (goal : Progress) (table names tape refusals : List ℕ) (f : Fed) : Type 0 where
   pub p : Progress
   pub stands : Stands tape₀ refusals₀ p table names tape refusals f
-  pub within : f .at ≤ length block
-  pub onward : linesTaken (length tape₀) (length refusals₀) (cut (drop (f .at) block) .ended) p ≡ goal
+  pub onward : linesTaken (length tape₀) (length refusals₀) (linesFrom last block (f .at)) p ≡ goal
 
--- lines of the block are taken from wherever the reading stands: it goes on to the same goal
-pub record Runs (block names refusals table tape : List ℕ) (f : Fed) (table′ tape′ : List ℕ) (r : Fed) : Type 0 where
-  pub to : (tape₀ refusals₀ : List ℕ) (goal : Progress) → Here block tape₀ refusals₀ goal table names tape refusals f → Here block tape₀ refusals₀ goal table′ names tape′ refusals r
+-- lines of the block are taken from wherever the reading stands: it goes on to the same goal, within the lent tape and refusals
+pub record Runs (last : Bool) (block names refusals table tape : List ℕ) (f : Fed) (table′ tape′ : List ℕ) (r : Fed) : Type 0 where
+  pub to : (tape₀ refusals₀ : List ℕ) (goal : Progress) → Here last block tape₀ refusals₀ goal table names tape refusals f → Here last block tape₀ refusals₀ goal table′ names tape′ refusals r
   pub ahead : f .at ≤ r .at
-
--- so are the line that ends at `end`, where there is room for it, and others behind it
-pub record Onward (block : List ℕ) (end : ℕ) (table names tape refusals : List ℕ) (f : Fed) (table′ names′ tape′ refusals′ : List ℕ) (r : Fed) : Type 0 where
-  pub to : (tape₀ refusals₀ : List ℕ) (goal : Progress) → Here block tape₀ refusals₀ goal table names tape refusals f
-      → end ≡ lineEnd block (f .at) → roomLeft (length tape) (length refusals) (f .tape) (f .refusals) (f .number) ≡ true
-      → Here block tape₀ refusals₀ goal table′ names′ tape′ refusals′ r
-  pub ahead : end < r .at
+  pub tape-in : r .tape ≤ length tape′
+  pub refusals-in : r .refusals ≤ length refusals

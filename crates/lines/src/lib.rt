@@ -5,12 +5,12 @@ use rules::Refusal;
 use rules::Settings;
 ghost use mathlib.Core.Path.{_≡_};
 ghost use mathlib.Core.List.{[], _∷_};
-ghost use Prim.Native.Nat.{_+_, _-_, _≤_, _<_};
+ghost use Prim.Native.Nat.{_+_, _-_, _≤_};
 ghost use lib.ListN.{length, take, drop};
 ghost use Rattle.text.specs.Put.{Written};
 ghost use Rattle.rules.specs.Refusal.{numberOf};
 ghost use Rattle.lines.specs.Refusals.{refusalLine};
-ghost use Rattle.lines.specs.Feed.{started, printed, told, roomLeft, linesTaken, blockTaken, Stands, Steps, Runs, Onward};
+ghost use Rattle.lines.specs.Feed.{started, printed, told, roomLeft, linesTaken, blockTaken, endsLine, Stands, Steps, Runs};
 
 // Where the reading of a block stands: the settings, the number of the next line, the bytes of the block that are read,
 // the bytes on the lent tape and in the lent refusals.
@@ -93,7 +93,7 @@ fn room_left(f: Fed, tape: usize, refusals: usize) -> bool
     f.number <= 9999999999
 }
 
-// The line from where the reading stands up to `end`.
+// The line from where the reading stands up to `end`, one that `feed_trades` left.
 fn feed_line(
     f: Fed,
     table: &mut [u64; 5632],
@@ -111,7 +111,7 @@ fn feed_line(
     let n = f.tape;
     let k = f.refusals;
     let st = f.settings;
-    let a = engine::take_line(st, table, names, &block[at..end], &mut tape[n..]);
+    let a = engine::take_by_plan(st, table, names, &block[at..end], &mut tape[n..]);
     let settings = a.settings;
     let outcome = a.outcome;
     let on_tape = n + printed_length(outcome);
@@ -125,25 +125,36 @@ fn feed_line(
     }
 }
 
-// Trades from where the reading stands on, as many as follow one another. The line feed behind 100 bytes is not searched for:
-// a trade has none in it.
+// A line ends at a place: a last line where the block ends, any other at a line feed.
+fn ends_line(block: &[u8], at: usize, last: bool) -> bool
+    ensures { λ r. ⌜ r ≡ endsLine last (now (block .entry)) at ⌝ }
+{
+    if last {
+        return at == block.len();
+    }
+    blocks::ends_at(block, at)
+}
+
+// Trades from where the reading stands on, as many as follow one another; where `last` is true the block is one line that no
+// line feed ends. The line feed behind 100 bytes is not searched for: a trade has none in it. All trades are taken here.
 fn feed_trades(
     f: Fed,
     table: &mut [u64; 5632],
     names: &[u8; 9728],
     block: &[u8],
+    last: bool,
     tape: &mut [u8],
     refusals: &[u8],
 ) -> Fed
     requires { ⌜ (f .at ≤ length (now block)) × (f .tape ≤ length (now tape)) × (f .refusals ≤ length (now refusals)) ⌝ }
-    ensures { λ r. ⌜ Runs (now (block .entry)) (now (names .entry)) (now (refusals .entry)) (now (table .entry)) (now (tape .entry)) f (now (table .exit)) (now (tape .exit)) r ⌝ }
+    ensures { λ r. ⌜ Runs last (now (block .entry)) (now (names .entry)) (now (refusals .entry)) (now (table .entry)) (now (tape .entry)) f (now (table .exit)) (now (tape .exit)) r ⌝ }
 {
     let st = f.settings;
     let mut r = f;
     while room_left(r, tape.len(), refusals.len()) {
         let at = r.at;
         let end = at + 100;
-        if !blocks::ends_at(block, end) {
+        if !ends_line(block, end, last) {
             return r;
         }
         let n = r.tape;
@@ -158,27 +169,10 @@ fn feed_trades(
     r
 }
 
-// A line that a line feed ends, and the trades behind it.
-fn feed_next(
-    f: Fed,
-    table: &mut [u64; 5632],
-    names: &mut [u8; 9728],
-    block: &[u8],
-    end: usize,
-    tape: &mut [u8],
-    refusals: &mut [u8],
-) -> Fed
-    requires { ⌜ (f .at ≤ end) × (end < length (now block)) × (f .tape ≤ length (now tape)) × (14 ≤ length (now refusals) - f .refusals) × (f .number ≤ 9999999999) ⌝ }
-    ensures { λ r. ⌜ Onward (now (block .entry)) end (now (table .entry)) (now (names .entry)) (now (tape .entry)) (now (refusals .entry)) f (now (table .exit)) (now (names .exit)) (now (tape .exit)) (now (refusals .exit)) r ⌝ }
-{
-    let g = feed_line(f, table, names, block, end, tape, refusals);
-    feed_trades(g, table, names, block, tape, refusals)
-}
-
 // ---- a block
 
 // Each line of the block that a line feed ends, as long as 400 bytes are left of the lent tape, 14 of the lent refusals,
-// and the line's number is at most 9,999,999,999.
+// and the line's number is at most 9,999,999,999: trades as long as they follow one another, then the line that is none.
 pub fn feed(
     settings: Settings,
     number: u64,
@@ -197,19 +191,22 @@ pub fn feed(
         tape: 0,
         refusals: 0,
     };
-    let mut end = blocks::line_end(block, 0);
-    while end < block.len() {
+    while f.at < block.len() {
+        f = feed_trades(f, table, names, block, false, tape, refusals);
+        let at = f.at;
+        let end = blocks::line_end(block, at);
+        if block.len() <= end {
+            return f;
+        }
         if !room_left(f, tape.len(), refusals.len()) {
             return f;
         }
-        f = feed_next(f, table, names, block, end, tape, refusals);
-        let at = f.at;
-        end = blocks::line_end(block, at);
+        f = feed_line(f, table, names, block, end, tape, refusals);
     }
     f
 }
 
-// One line that no line feed ends.
+// One line that no line feed ends: a trade, whose end is then read, or any other.
 pub fn feed_last(
     settings: Settings,
     number: u64,
@@ -221,16 +218,20 @@ pub fn feed_last(
 ) -> Fed
     ensures { λ r. ⌜ Stands (now (tape .entry)) (now (refusals .entry)) (linesTaken (length (now (tape .entry))) (length (now (refusals .entry))) (now (line .entry) ∷ []) (started settings (now (table .entry)) (now (names .entry)) number)) (now (table .exit)) (now (names .exit)) (now (tape .exit)) (now (refusals .exit)) r ⌝ }
 {
-    let f = Fed {
+    let start = Fed {
         settings: settings,
         number: number,
         at: 0,
         tape: 0,
         refusals: 0,
     };
+    let f = feed_trades(start, table, names, line, true, tape, refusals);
+    let end = line.len();
+    if end < f.at {
+        return f;
+    }
     if !room_left(f, tape.len(), refusals.len()) {
         return f;
     }
-    let end = line.len();
     feed_line(f, table, names, line, end, tape, refusals)
 }

@@ -12,8 +12,8 @@ same-length c = search needs
 returns : tie.Need-returns
 returns c = search trade-done
 
-take-other-requires : tie.Need-take-other-requires
-take-other-requires c κs = search needs
+take-by-plan-requires : tie.Need-take-by-plan-requires
+take-by-plan-requires c κs = search needs
 
 same-length-2 : tie.Need-same-length-2
 same-length-2 c = search needs
@@ -24,4 +24,4 @@ returns-2 c = search trade-passed
 pub take-line-spec : {M : Type 1} → statement M
 take-line-spec =
     tie.close
-    (tie.spec take-trade-requires same-length returns take-other-requires same-length-2 returns-2)
+    (tie.spec take-trade-requires same-length returns take-by-plan-requires same-length-2 returns-2)

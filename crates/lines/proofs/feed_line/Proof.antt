@@ -7,26 +7,26 @@ use Rattle.lines.proofs.feed_line.Tie as tie
 add-next : tie.Need-add-next
 add-next c = search needs
 
-sub-take-line : tie.Need-sub-take-line
-sub-take-line c = search needs
+sub-take-by-plan : tie.Need-sub-take-by-plan
+sub-take-by-plan c = search needs
 
-part-take-line-start : tie.Need-part-take-line-start
-part-take-line-start c = search needs
+part-take-by-plan-start : tie.Need-part-take-by-plan-start
+part-take-by-plan-start c = search needs
 
-part-take-line-end : tie.Need-part-take-line-end
-part-take-line-end c = search needs
+part-take-by-plan-end : tie.Need-part-take-by-plan-end
+part-take-by-plan-end c = search needs
 
-sub-take-line-2 : tie.Need-sub-take-line-2
-sub-take-line-2 c = search needs
+sub-take-by-plan-2 : tie.Need-sub-take-by-plan-2
+sub-take-by-plan-2 c = search needs
 
-part-take-line-start-2 : tie.Need-part-take-line-start-2
-part-take-line-start-2 c = search needs
+part-take-by-plan-start-2 : tie.Need-part-take-by-plan-start-2
+part-take-by-plan-start-2 c = search needs
 
-part-take-line-end-2 : tie.Need-part-take-line-end-2
-part-take-line-end-2 c = search needs
+part-take-by-plan-end-2 : tie.Need-part-take-by-plan-end-2
+part-take-by-plan-end-2 c = search needs
 
-take-line-requires : tie.Need-take-line-requires
-take-line-requires c κs = search needs
+take-by-plan-requires : tie.Need-take-by-plan-requires
+take-by-plan-requires c κs = search needs
 
 printed-length-requires : tie.Need-printed-length-requires
 printed-length-requires c κs = search needs
@@ -59,20 +59,20 @@ same-length-2 : tie.Need-same-length-2
 same-length-2 c = search needs
 
 returns : tie.Need-returns
-returns c = let q = c .before .before .before .before .before .before .before .before .before .before .before .before .before .before .before .before .before .before .pre in line-gone _ _ _ _ _ _ _ _ _ _ _ _ _ _ (c .before .before .before .before .before .before .before .before .before .take-line .ensures) (c .before .before .before .before .before .printed-length .ensures) (c .before .before .before .write-told .ensures) (q .0) (q .1) (q .2) (q .3)
+returns c = let q = c .before .before .before .before .before .before .before .before .before .before .before .before .before .before .before .before .before .before .pre in line-gone _ _ _ _ _ _ _ _ _ _ _ _ _ _ (c .before .before .before .before .before .before .before .before .before .take-by-plan .ensures) (c .before .before .before .before .before .printed-length .ensures) (c .before .before .before .write-told .ensures) (q .0) (q .1) (q .2) (q .3)
 
 pub feed-line-spec : {M : Type 1} → statement M
 feed-line-spec =
     tie.close
     (tie.spec
     add-next
-    sub-take-line
-    part-take-line-start
-    part-take-line-end
-    sub-take-line-2
-    part-take-line-start-2
-    part-take-line-end-2
-    take-line-requires
+    sub-take-by-plan
+    part-take-by-plan-start
+    part-take-by-plan-end
+    sub-take-by-plan-2
+    part-take-by-plan-start-2
+    part-take-by-plan-end-2
+    take-by-plan-requires
     printed-length-requires
     add-on-tape
     sub-write-told

@@ -1,15 +1,15 @@
 use Prim.Native.Nat.{_-_}
 use lib.ListN.{length}
-use Rattle.lines.proofs.Runs.{Run, run-start, run-stop, line-end-in, next-adds, print-adds, number-adds, run-less, run-on}
+use Rattle.lines.proofs.Runs.{Run, run-start, run-stop, line-in, next-adds, print-adds, number-adds, run-less, run-on}
 use borrow.Author.Needs.{needs}
 use Rattle.lines.proofs.feed_trades.Statement.{statement}
 use Rattle.lines.proofs.feed_trades.Tie as tie
 
 abbrev Inv-loop : tie.InvT-loop
-Inv-loop table₀ names block tape₀ refusals st r₀ table tape r = Run block names refusals table₀ tape₀ st r₀ table tape r
+Inv-loop table₀ names block last tape₀ refusals st r₀ table tape r = Run last block names refusals table₀ tape₀ st r₀ table tape r
 
 abbrev μ-loop : tie.MeasureT-loop
-μ-loop table₀ names block tape₀ refusals st r₀ table tape r = length block - r .at
+μ-loop table₀ names block last tape₀ refusals st r₀ table tape r = length block - r .at
 
 loop-holds : tie.Need-loop-holds Inv-loop μ-loop
 loop-holds c = search run-start
@@ -20,8 +20,8 @@ room-left-requires c κs = search needs
 add-end : tie.Need-add-end Inv-loop μ-loop
 add-end c = search needs
 
-ends-at-requires : tie.Need-ends-at-requires Inv-loop μ-loop
-ends-at-requires c κs = search needs
+ends-line-requires : tie.Need-ends-line-requires Inv-loop μ-loop
+ends-line-requires c κs = search needs
 
 same-length : tie.Need-same-length Inv-loop μ-loop
 same-length c = search needs
@@ -36,7 +36,7 @@ part-take-trade-start : tie.Need-part-take-trade-start Inv-loop μ-loop
 part-take-trade-start c = search needs
 
 part-take-trade-end : tie.Need-part-take-trade-end Inv-loop μ-loop
-part-take-trade-end c = search line-end-in
+part-take-trade-end c = search line-in
 
 sub-take-trade-2 : tie.Need-sub-take-trade-2 Inv-loop μ-loop
 sub-take-trade-2 c = search needs
@@ -63,7 +63,7 @@ add-r-2 : tie.Need-add-r-2 Inv-loop μ-loop
 add-r-2 c = let g = c .before .before .before .before .before .before .before .before .before .before .before .before .before .before .before .before .before .before .good .1 .1 .1 .0 in search (next-adds, g)
 
 add-r-3 : tie.Need-add-r-3 Inv-loop μ-loop
-add-r-3 c = let g = c .before .before .before .before .before .before .before .before .before .before .before .before .before .before .before .before .before .before .before .good .1 .1 .1 .1 .0 in search (print-adds, g)
+add-r-3 c = let g = c .before .before .before .before .before .before .before .before .before .before .before .before .before .before .before .before .before .before .before .good .1 .1 .1 .1 .1 .0 in search (print-adds, g)
 
 loop-less : tie.Need-loop-less Inv-loop μ-loop
 loop-less c = search run-less
@@ -86,7 +86,7 @@ feed-trades-spec =
     loop-holds
     room-left-requires
     add-end
-    ends-at-requires
+    ends-line-requires
     same-length
     returns
     sub-take-trade

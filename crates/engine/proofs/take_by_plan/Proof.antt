@@ -2,8 +2,8 @@ use Rattle.planprint.proofs.Sound.{sound-asked}
 use Rattle.engine.proofs.Steps.{taken}
 use Rattle.planprint.proofs.Room.{fitted-sound, print-fits}
 use borrow.Author.Needs.{needs}
-use Rattle.engine.proofs.take_other.Statement.{statement}
-use Rattle.engine.proofs.take_other.Tie as tie
+use Rattle.engine.proofs.take_by_plan.Statement.{statement}
+use Rattle.engine.proofs.take_by_plan.Tie as tie
 
 plan-line-requires : tie.Need-plan-line-requires
 plan-line-requires c κs = search needs
@@ -32,8 +32,8 @@ same-length c = search needs
 returns : tie.Need-returns
 returns c = search taken
 
-pub take-other-spec : {M : Type 1} → statement M
-take-other-spec =
+pub take-by-plan-spec : {M : Type 1} → statement M
+take-by-plan-spec =
     tie.close
     (tie.spec
     plan-line-requires
