@@ -64,7 +64,7 @@ pub fn write_full_volume(rest: &mut [u8], n: u64) -> usize
     write_millions(rest, n)
 }
 
-// ---- how a volume is shown (001, 3.3)
+// ---- how a volume is shown (document 01, "Volume")
 
 // Its figures without their last `cut` digits, then `size` bytes of the marks, from `mark` on.
 pub struct Form {
