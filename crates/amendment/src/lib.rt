@@ -14,6 +14,7 @@ ghost use Rattle.rules.specs.Side.{sideText};
 ghost use Rattle.trade.specs.Columns.{SideColumns};
 ghost use Rattle.amendment.specs.Original.{originalText};
 ghost use Rattle.rules.specs.Correction.{repeatsName, endPair, correctionText, cancelText, cancelOpening, errorOpening};
+ghost use Rattle.rules.specs.Sizes.{nameWidth};
 
 // ---- parts
 
@@ -43,7 +44,7 @@ fn correcting_length(
     shows: bool,
     y: Side,
 ) -> usize
-    requires { ⌜ (length (now name) ≡ 19) × (1 ≤ unit) × (y .price .d ≤ 8) × (y .previous .d ≤ 8) ⌝ }
+    requires { ⌜ (length (now name) ≡ nameWidth) × (1 ≤ unit) × (y .price .d ≤ 8) × (y .previous .d ≤ 8) ⌝ }
     ensures { λ r. ⌜ (r ≡ length (sideText (opt (repeatsName letters) (nameText false (now (name .entry)))) network unit full shows y)) × (r ≤ 183) ⌝ }
 {
     if qualifying::repeats_name(letters) {
@@ -63,7 +64,7 @@ fn write_correcting(
     y: Side,
     part: &[u8],
 ) -> usize
-    requires { ⌜ (length (now name) ≡ 19) × (1 ≤ unit) × SideColumns (now part) y × (length (sideText (opt (repeatsName letters) (nameText false (now name))) network unit full shows y) ≤ length (now rest)) ⌝ }
+    requires { ⌜ (length (now name) ≡ nameWidth) × (1 ≤ unit) × SideColumns (now part) y × (length (sideText (opt (repeatsName letters) (nameText false (now name))) network unit full shows y) ≤ length (now rest)) ⌝ }
     ensures { λ r. ⌜ Written (sideText (opt (repeatsName letters) (nameText false (now (name .entry)))) network unit full shows y) (now (rest .entry)) (now (rest .exit)) r ⌝ }
 {
     if qualifying::repeats_name(letters) {
@@ -104,7 +105,7 @@ pub fn cancel_length(
     shows: bool,
     x: Side,
 ) -> usize
-    requires { ⌜ (length (now name) ≡ 19) × (1 ≤ unit) × (x .price .d ≤ 8) × (x .previous .d ≤ 8) ⌝ }
+    requires { ⌜ (length (now name) ≡ nameWidth) × (1 ≤ unit) × (x .price .d ≤ 8) × (x .previous .d ≤ 8) ⌝ }
     ensures { λ r. ⌜ r ≡ length (cancelText (pick error errorOpening cancelOpening) (nameText false (now (name .entry))) network unit full shows x) ⌝ }
 {
     6 + trade::side_length(name, false, network, unit, full, shows, x) + end_pair_length(x)
@@ -121,7 +122,7 @@ pub fn write_cancel(
     x: Side,
     part: &[u8],
 ) -> usize
-    requires { ⌜ (length (now name) ≡ 19) × (1 ≤ unit) × SideColumns (now part) x × (length (cancelText (pick error errorOpening cancelOpening) (nameText false (now name)) network unit full shows x) ≤ length (now rest)) ⌝ }
+    requires { ⌜ (length (now name) ≡ nameWidth) × (1 ≤ unit) × SideColumns (now part) x × (length (cancelText (pick error errorOpening cancelOpening) (nameText false (now name)) network unit full shows x) ≤ length (now rest)) ⌝ }
     ensures { λ r. ⌜ Written (cancelText (pick error errorOpening cancelOpening) (nameText false (now (name .entry))) network unit full shows x) (now (rest .entry)) (now (rest .exit)) r ⌝ }
 {
     let at = write_opening(rest, error);
@@ -151,7 +152,7 @@ pub fn correction_length(
     x: Side,
     y: Side,
 ) -> usize
-    requires { ⌜ (length (now name) ≡ 19) × (1 ≤ unit) × (x .price .d ≤ 8) × (x .previous .d ≤ 8) × (y .price .d ≤ 8) × (y .previous .d ≤ 8) ⌝ }
+    requires { ⌜ (length (now name) ≡ nameWidth) × (1 ≤ unit) × (x .price .d ≤ 8) × (x .previous .d ≤ 8) × (y .price .d ≤ 8) × (y .previous .d ≤ 8) ⌝ }
     ensures { λ r. ⌜ r ≡ length (correctionText (nameText false (now (name .entry))) network unit full shows x y) ⌝ }
 {
     let letters = y.letters; // the length, by the correcting trade
@@ -171,7 +172,7 @@ fn write_original(
     x: Side,
     part: &[u8],
 ) -> usize
-    requires { ⌜ (length (now name) ≡ 19) × (1 ≤ unit) × SideColumns (now part) x × (length (originalText (nameText false (now name)) network unit full shows x) ≤ length (now rest)) ⌝ }
+    requires { ⌜ (length (now name) ≡ nameWidth) × (1 ≤ unit) × SideColumns (now part) x × (length (originalText (nameText false (now name)) network unit full shows x) ≤ length (now rest)) ⌝ }
     ensures { λ r. ⌜ Written (originalText (nameText false (now (name .entry))) network unit full shows x) (now (rest .entry)) (now (rest .exit)) r ⌝ }
 {
     let at = text::write_bytes(rest, b"<<CORR.");
@@ -202,7 +203,7 @@ pub fn write_correction(
     part: &[u8],
     other: &[u8],
 ) -> usize
-    requires { ⌜ (length (now name) ≡ 19) × (1 ≤ unit) × SideColumns (now part) x × SideColumns (now other) y × (length (correctionText (nameText false (now name)) network unit full shows x y) ≤ length (now rest)) ⌝ }
+    requires { ⌜ (length (now name) ≡ nameWidth) × (1 ≤ unit) × SideColumns (now part) x × SideColumns (now other) y × (length (correctionText (nameText false (now name)) network unit full shows x y) ≤ length (now rest)) ⌝ }
     ensures { λ r. ⌜ Written (correctionText (nameText false (now (name .entry))) network unit full shows x y) (now (rest .entry)) (now (rest .exit)) r ⌝ }
 {
     let letters = y.letters; // the text, by the correcting trade

@@ -13,6 +13,7 @@ use Rattle.text.specs.Pick.{pick, all}
 use Rattle.text.specs.Put.{put, Written}
 use Rattle.text.proofs.Writing.{store}
 use Rattle.text.proofs.Texts.{and-left, and-right}
+use Rattle.rules.specs.Sizes.{width}
 use Rattle.blocks.specs.Lines.{lineLength, lineEnd, endsAt}
 
 pub length-feed : (c : ℕ) (s : List ℕ) → c ≡ 10 → lineLength (c ∷ s) ≡ 0
@@ -40,14 +41,14 @@ module _ (block : List ℕ) (i e : ℕ) where
 
 module _ (block : List ℕ) (from near i : ℕ) (so : near ≡ 0 → lineEnd block (from + i) ≡ lineEnd block from) where
   -- a byte that is none
-  pub near-on : (near′ : ℕ) → near′ ≡ near → from + 100 ≤ length block → i < 100 → (getD block (from + i) 0 ≡ 10 → ⊥) → near′ ≡ 0 → lineEnd block (from + (i + 1)) ≡ lineEnd block from
+  pub near-on : (near′ : ℕ) → near′ ≡ near → from + width ≤ length block → i < width → (getD block (from + i) 0 ≡ 10 → ⊥) → near′ ≡ 0 → lineEnd block (from + (i + 1)) ≡ lineEnd block from
   near-on near′ e l m h z =
       let a : from + (i + 1) ≡ from + i + 1 = omega arith in
       rw a (end-on block (from + i) (lineEnd block from) (omega arith) h (so (omega arith)))
 
-  -- 100 bytes
-  pub near-all : i ≤ 100 → 100 ≤ i → near ≡ 0 → lineEnd block (from + 100) ≡ lineEnd block from
-  near-all l m z = let e : i ≡ 100 = omega arith in rw e at (so z)
+  -- width bytes
+  pub near-all : i ≤ width → width ≤ i → near ≡ 0 → lineEnd block (from + width) ≡ lineEnd block from
+  near-all l m z = let e : i ≡ width = omega arith in rw e at (so z)
 
 pub near-start : (block : List ℕ) (from near : ℕ) → near ≡ 0 → lineEnd block (from + 0) ≡ lineEnd block from
 near-start block from near z = let e : from + 0 ≡ from = omega arith in rw e
@@ -55,8 +56,8 @@ near-start block from near z = let e : from + 0 ≡ from = omega arith in rw e
 pub near-seen : (block : List ℕ) (from i near : ℕ) → near ≡ 1 → near ≡ 0 → lineEnd block (from + (i + 1)) ≡ lineEnd block from
 near-seen block from i near e z = absurd (omega arith)
 
--- a step of 100 bytes
-pub near-step : (block : List ℕ) (i e near : ℕ) → (near ≡ 0 → lineEnd block (i + 100) ≡ lineEnd block i) → near ≡ 0 → lineEnd block i ≡ e → lineEnd block (i + 100) ≡ e
+-- a step of width bytes
+pub near-step : (block : List ℕ) (i e near : ℕ) → (near ≡ 0 → lineEnd block (i + width) ≡ lineEnd block i) → near ≡ 0 → lineEnd block i ≡ e → lineEnd block (i + width) ≡ e
 near-step block i e near so z q = so z ∙ q
 
 -- ---- a line feed at a place

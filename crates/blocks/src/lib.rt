@@ -1,19 +1,21 @@
 // A block of bytes read so far: the lines in it (a line is what a line feed ends), where the next one ends, and what is left
 // moved to the front.
+use rules::WIDTH;
 ghost use mathlib.Core.Path.{_≡_};
 ghost use Prim.Native.Nat.{_+_, _-_, _≤_};
 ghost use lib.ListN.{length, drop};
 ghost use Rattle.text.specs.Put.{Written};
+ghost use Rattle.rules.specs.Sizes.{width};
 ghost use Rattle.blocks.specs.Lines.{lineEnd, endsAt};
 
-// 0 where no line feed stands in the 100 bytes from `from` on. It looks at all of them, so that they are compared at once.
+// 0 where no line feed stands in the bytes of a line from `from` on. It looks at all of them, so that they are compared at once.
 fn feed_near(block: &[u8], from: usize) -> u8
-    requires { ⌜ from + 100 ≤ length (now block) ⌝ }
-    ensures { λ r. ⌜ (r ≡ 0 → lineEnd (now (block .entry)) (from + 100) ≡ lineEnd (now (block .entry)) from) ⌝ }
+    requires { ⌜ from + width ≤ length (now block) ⌝ }
+    ensures { λ r. ⌜ (r ≡ 0 → lineEnd (now (block .entry)) (from + width) ≡ lineEnd (now (block .entry)) from) ⌝ }
 {
     let mut near: u8 = 0;
     let mut i: usize = 0;
-    while i < 100 {
+    while i < WIDTH {
         if block[from + i] == 10 {
             near = 1;
         }
@@ -22,7 +24,7 @@ fn feed_near(block: &[u8], from: usize) -> u8
     near
 }
 
-// A place in the same line, near its end: the end itself of a line of 100 bytes.
+// A place in the same line, near its end: the end itself of a line of its width.
 fn line_near(block: &[u8], from: usize) -> usize
     ensures { λ r. ⌜ lineEnd (now (block .entry)) r ≡ lineEnd (now (block .entry)) from ⌝ }
 {
@@ -31,13 +33,13 @@ fn line_near(block: &[u8], from: usize) -> usize
         if block[i] == 10 {
             return i;
         }
-        if block.len() - i < 100 {
+        if block.len() - i < WIDTH {
             return i;
         }
         if feed_near(block, i) != 0 {
             return i;
         }
-        i += 100;
+        i += WIDTH;
     }
     i
 }

@@ -30,6 +30,7 @@ use Rattle.rules.specs.declared.Refusal.the-variants.{Shape, Kind, NoDate, Form
 use Rattle.rules.specs.declared.Settings.{Settings}
 use Rattle.rules.specs.declared.Security.{Security}
 use Rattle.rules.proofs.Fields.{name-length}
+use Rattle.table.specs.Sizes.{tableSize, namesSize}
 use Rattle.table.specs.Rows.{row, nameOf, dayOf}
 use Rattle.table.proofs.Held.{held-security, held-name, security-set, name-set, held-cleared}
 use Rattle.planner.specs.declared.Plan.{Plan}
@@ -106,7 +107,7 @@ module _ (st : Settings) (table names line : List ℕ) (room : ℕ) where
 
   -- ---- each kind
 
-  module _ (name : List ℕ) (columns : name ≡ nameColumns line) (rows : length table ≡ 5632) (places : length names ≡ 9728) (long : length name ≡ 19) where
+  module _ (name : List ℕ) (columns : name ≡ nameColumns line) (rows : length table ≡ tableSize) (places : length names ≡ namesSize) (long : length name ≡ 19) where
     abbrev day : Day
     day = dayOf st table names
 
@@ -208,7 +209,7 @@ module _ (st : Settings) (table names line : List ℕ) (room : ℕ) where
 
 -- ---- every kind
 
-same-line : (st : Settings) (table names line : List ℕ) (room : ℕ) (l : Line) → length table ≡ 5632 → length names ≡ 9728 → length (nameColumns line) ≡ 19 → SoundLine l
+same-line : (st : Settings) (table names line : List ℕ) (room : ℕ) (l : Line) → length table ≡ tableSize → length names ≡ namesSize → length (nameColumns line) ≡ 19 → SoundLine l
     → Agrees st table names line room (rules.printOf (dayOf st table names) l) (afterLine (dayOf st table names) (nameColumns line) l) (stateRefusal (dayOf st table names) (nameColumns line) l (refuse (ltb room (length (rules.printOf (dayOf st table names) l))) Room none)) (linePlan st table names (nameColumns line) l)
 unfolding SoundLine
 same-line st table names line room (Dated n) e f g h = same-date st table names line room (nameColumns line) refl e f g n
@@ -235,7 +236,7 @@ outcome-by (Correct c) n = refl
 
 -- ---- any line
 
-module _ (st : Settings) (table names line : List ℕ) (room : ℕ) (rows : length table ≡ 5632) (places : length names ≡ 9728) where
+module _ (st : Settings) (table names line : List ℕ) (room : ℕ) (rows : length table ≡ tableSize) (places : length names ≡ namesSize) where
   agrees : Agrees st table names line room (rules.printOf (dayOf st table names) (lineOf line)) (afterLine (dayOf st table names) (nameColumns line) (lineOf line)) (refusalOf (dayOf st table names) line room) (planOf st table names line)
   unfolding refusalOf refuse undated planOf readPlan isFormed isRanged lineOf dayOf
   agrees =

@@ -10,6 +10,7 @@ use Rattle.rules.specs.Line.{nameColumns}
 use Rattle.rules.specs.Day.{Day, opened, fresh, tapeOf, after, refusalOf}
 use Rattle.rules.specs.declared.Settings.{Settings}
 use Rattle.rules.proofs.Fields.{name-length}
+use Rattle.table.specs.Sizes.{tableSize, namesSize}
 use Rattle.table.specs.Rows.{dayOf, withName, numbers}
 use Rattle.table.proofs.Places.{length-stored}
 use Rattle.table.proofs.Held.{held-cleared}
@@ -31,7 +32,7 @@ use Rattle.calls.proofs.Early.{Early, early-asked, same-asked}
 
 -- ---- the tables keep their sizes
 
-table-length : (table : List ℕ) (p : Plan) → length table ≡ 5632 → length (tableAfter table p) ≡ 5632
+table-length : (table : List ℕ) (p : Plan) → length table ≡ tableSize → length (tableAfter table p) ≡ tableSize
 unfolding tableAfter
 table-length table (Stop r) h = h
 table-length table (Open n) h = refl
@@ -47,7 +48,7 @@ with-name-length : (names name : List ℕ) (at : ℕ) → at + length name ≤ l
 unfolding withName
 with-name-length names name at h = simp (length-append, length-take, length-drop) (omega arith)
 
-names-length : (names line : List ℕ) (p : Plan) → SoundPlan line p → length names ≡ 9728 → length (namesAfter names line p) ≡ 9728
+names-length : (names line : List ℕ) (p : Plan) → SoundPlan line p → length names ≡ namesSize → length (namesAfter names line p) ≡ namesSize
 unfolding namesAfter SoundPlan
 names-length names line (Stop r) k h = h
 names-length names line (Open n) k h = refl
@@ -110,7 +111,7 @@ module _ (s m : State) (c : Lent) (b : List ℕ) (r : Answer) (t : Taken (s .set
 
 -- ---- before the first date line
 
-noughts : (table names line : List ℕ) (p : Plan) → Early p → Holds (record { settings = settingsAfter (opened 0) p; table = tableAfter table p; names = namesAfter names line p }) (dayAfter (opened 0) (replicate 5632 0) (replicate 9728 0) line p)
+noughts : (table names line : List ℕ) (p : Plan) → Early p → Holds (record { settings = settingsAfter (opened 0) p; table = tableAfter table p; names = namesAfter names line p }) (dayAfter (opened 0) (replicate tableSize 0) (replicate namesSize 0) line p)
 unfolding Early settingsAfter tableAfter namesAfter dayAfter fresh
 noughts table names line (Stop r) h = undated refl (held-cleared 0)
 noughts table names line (Open n) h = held refl
@@ -143,18 +144,18 @@ module _ (s m : State) (c : Lent) (b : List ℕ) (r : Answer) (t : Taken (s .set
   room = length (c .tape)
 
   abbrev q : Plan
-  q = asked (opened 0) (replicate 5632 0) (replicate 9728 0) (c .line) room
+  q = asked (opened 0) (replicate tableSize 0) (replicate namesSize 0) (c .line) room
 
   plan-is : asked (s .settings) (s .table) (s .names) (c .line) room ≡ q
-  plan-is = rw first (same-asked (c .line) room (s .table) (replicate 5632 0) (s .names) (replicate 9728 0))
+  plan-is = rw first (same-asked (c .line) room (s .table) (replicate tableSize 0) (s .names) (replicate namesSize 0))
 
   early-q : Early q
-  early-q = early-asked (c .line) room (replicate 5632 0) (replicate 9728 0)
+  early-q = early-asked (c .line) room (replicate tableSize 0) (replicate namesSize 0)
 
-  from-fresh : ByRules (opened 0) (replicate 5632 0) (replicate 9728 0) (c .line) room
-  from-fresh = by-rules (opened 0) (replicate 5632 0) (replicate 9728 0) (c .line) room refl refl
+  from-fresh : ByRules (opened 0) (replicate tableSize 0) (replicate namesSize 0) (c .line) room
+  from-fresh = by-rules (opened 0) (replicate tableSize 0) (replicate namesSize 0) (c .line) room refl refl
 
-  is-fresh : dayOf (opened 0) (replicate 5632 0) (replicate 9728 0) ≡ fresh
+  is-fresh : dayOf (opened 0) (replicate tableSize 0) (replicate namesSize 0) ≡ fresh
   unfolding fresh
   is-fresh = held-cleared 0
 
@@ -163,7 +164,7 @@ module _ (s m : State) (c : Lent) (b : List ℕ) (r : Answer) (t : Taken (s .set
       link-tape s m c b r t kept
       ∙ (ap (printOf (s .settings) (s .names)) plan-is
       ∙ (ap (λ (x : Settings). printOf x (s .names) q) first
-      ∙ (early-print (opened 0) (s .names) (replicate 9728 0) q early-q
+      ∙ (early-print (opened 0) (s .names) (replicate namesSize 0) q early-q
       ∙ (sym (from-fresh .print-is)
       ∙ ap (λ (d : Day). tapeOf d (callOf c)) is-fresh))))
 
@@ -172,7 +173,7 @@ module _ (s m : State) (c : Lent) (b : List ℕ) (r : Answer) (t : Taken (s .set
       let settled : m .settings ≡ settingsAfter (opened 0) q = sym kept ∙ (t .settings ∙ (ap (settingsAfter (s .settings)) plan-is ∙ ap (λ (x : Settings). settingsAfter x q) first)) in
       let table : m .table ≡ tableAfter (s .table) q = t .table-is ∙ ap (tableAfter (s .table)) plan-is in
       let names : m .names ≡ namesAfter (s .names) (c .line) q = t .names-is ∙ ap (namesAfter (s .names) (c .line)) plan-is in
-      let day : after fresh (callOf c) ≡ dayAfter (opened 0) (replicate 5632 0) (replicate 9728 0) (c .line) q = ap (λ (d : Day). after d (callOf c)) (sym is-fresh) ∙ from-fresh .day-is in
+      let day : after fresh (callOf c) ≡ dayAfter (opened 0) (replicate tableSize 0) (replicate namesSize 0) (c .line) q = ap (λ (d : Day). after d (callOf c)) (sym is-fresh) ∙ from-fresh .day-is in
       rw day (holds-as m _ _ _ _ settled table names (noughts (s .table) (s .names) (c .line) q early-q))
 
 -- ---- the whole list
@@ -188,7 +189,7 @@ link-refusal s line room day z (held e) = rw (← e) (by-rules (s .settings) (s 
 link-refusal s line room day z (undated e f) =
     rw (e, f)
     (ap (λ (d : Day). refusalOf d line room) (sym (held-cleared 0))
-    ∙ (by-rules (opened 0) (replicate 5632 0) (replicate 9728 0) line room refl refl .refusal-is ∙ ap stopOf (same-asked line room (replicate 5632 0) (s .table) (replicate 9728 0) (s .names))))
+    ∙ (by-rules (opened 0) (replicate tableSize 0) (replicate namesSize 0) line room refl refl .refusal-is ∙ ap stopOf (same-asked line room (replicate tableSize 0) (s .table) (replicate namesSize 0) (s .names))))
 
 pub run-by-rules : {s e : State} {cs : List Lent} {out : List ℕ} → Run s cs e out → (day : Day) → Sized s → Holds s day → (out ≡ tapeFrom day cs) × Holds e (dayFrom day cs)
 unfolding tapeFrom dayFrom

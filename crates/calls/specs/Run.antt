@@ -3,6 +3,7 @@ use Prim.Native.Nat.{ℕ}
 use mathlib.Core.Path.{_≡_}
 use mathlib.Core.List.{List, [], _∷_, _++_}
 use lib.ListN.{length, take}
+use Rattle.table.specs.Sizes.{tableSize, namesSize}
 use Rattle.rules.specs.Day.{Day, Call, opened, fresh, tapeOf, after}
 use Rattle.rules.specs.declared.Settings.{Settings}
 use Rattle.table.specs.Rows.{dayOf}
@@ -19,8 +20,8 @@ pub record State : Type 0 where
 
 -- the tables have their sizes
 pub record Sized (s : State) : Type 0 where
-  pub rows : length (s .table) ≡ 5632
-  pub places : length (s .names) ≡ 9728
+  pub rows : length (s .table) ≡ tableSize
+  pub places : length (s .names) ≡ namesSize
 
 -- what a call is lent beside them: a line and a tape, of any bytes and any length
 pub record Lent : Type 0 where

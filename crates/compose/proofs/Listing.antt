@@ -19,6 +19,7 @@ use Rattle.rules.specs.declared.Number.the-variants.{Is}
 use Rattle.rules.specs.declared.Listing.{Listing}
 use Rattle.rules.specs.declared.Line.the-variants.{Listed}
 use Rattle.rules.specs.declared.Refusal.{Refusal}
+use Rattle.rules.specs.Sizes.{width}
 use Rattle.named.proofs.Root.{false-true}
 use Rattle.compose.specs.Columns.{digitsBefore, numberField, later, textField, blanks}
 use Rattle.compose.specs.Lines.{listingLine}
@@ -41,7 +42,7 @@ unfoldable pub listedAs : ℕ → ℕ → Listing
 listedAs network unit = record { number = 1; unit = unit; network = network; market = 65; first = 0; lawful = true }
 
 module _ (network unit : ℕ) (name : List ℕ) where
-  long : length (listingLine network unit name) ≡ 100
+  long : length (listingLine network unit name) ≡ width
   unfolding listingLine numberField digitsBefore textField blanks
   long = refl
 
@@ -73,7 +74,7 @@ module _ (network unit : ℕ) (name : List ℕ) where
   unfolding listingLine numberField digitsBefore textField blanks
   first-there = number-back 0 0 (omega arith)
 
-  rest-there : columns 31 100 (listingLine network unit name) ≡ blanks 70
+  rest-there : columns 31 width (listingLine network unit name) ≡ blanks 70
   unfolding listingLine numberField digitsBefore textField blanks
   rest-there = refl
 
@@ -97,7 +98,7 @@ three-printable : (n : ℕ) → isPrintable n ≡ true → all isPrintable (n �
 unfolding all isPrintable between
 three-printable n h = rw h
 
-pub shape : (s : List ℕ) → length s ≡ 100 → all isPrintable s ≡ true → (eqb (length s) 100 && all isPrintable s) ≡ true
+pub shape : (s : List ℕ) → length s ≡ width → all isPrintable s ≡ true → (eqb (length s) 100 && all isPrintable s) ≡ true
 shape s h l = rw (h, l)
 
 pub not-zero : (n : ℕ) → 1 ≤ n → eqb n 0 ≡ false

@@ -36,6 +36,7 @@ use Rattle.rules.specs.declared.Line.the-variants.{Listed, Moded, Leveled, Trad
 use Rattle.rules.specs.declared.Refusal.{Refusal}
 use Rattle.rules.specs.declared.Refusal.the-variants.{NoDate}
 use Rattle.rules.proofs.Some.{some-named, some-cancel, some-correction, some-mode, some-level}
+use Rattle.rules.specs.Sizes.{width}
 use Rattle.named.proofs.Back.{name-some}
 use Rattle.named.specs.Plain.{NamePlain}
 use Rattle.compose.specs.Columns.{digitsBefore, numberField, firstOr, later, textField, blanks}
@@ -329,7 +330,7 @@ level-kind : (n : ℕ) → column 1 (levelLine n) ≡ 86
 unfolding levelLine numberField digitsBefore
 level-kind n = refl
 
-level-long : (n : ℕ) → length (levelLine n) ≡ 100
+level-long : (n : ℕ) → length (levelLine n) ≡ width
 unfolding levelLine numberField digitsBefore blanks
 level-long n = refl
 
@@ -337,7 +338,7 @@ level-number : (n : ℕ) → n < 10 ^ 6 → numberIn (columns 2 7 (levelLine n))
 unfolding levelLine numberField digitsBefore blanks
 level-number n h = number-back 5 n h
 
-level-rest : (n : ℕ) → columns 8 100 (levelLine n) ≡ blanks 93
+level-rest : (n : ℕ) → columns 8 width (levelLine n) ≡ blanks 93
 unfolding levelLine numberField digitsBefore blanks
 level-rest n = refl
 

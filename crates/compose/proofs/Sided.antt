@@ -13,6 +13,7 @@ use Rattle.rules.specs.declared.Number.the-variants.{Is}
 use Rattle.rules.specs.declared.Side.{Side}
 use Rattle.rules.specs.declared.Trade.{Trade}
 use Rattle.rules.specs.declared.Correction.{Correction}
+use Rattle.rules.specs.Sizes.{width}
 use Rattle.compose.specs.Columns.{digitsBefore, numberField, textField, lettersColumns, filledIf, blanks}
 use Rattle.compose.specs.Lines.{sideColumns, tradeLine, correctionLine}
 use Rattle.compose.proofs.Fields.{number-back, printable-number}
@@ -53,11 +54,11 @@ module _ (kind : ℕ) (x : Side) where
   unfolding tradeLine numberField digitsBefore sideColumns lettersColumns textField filledIf blanks
   side-there = refl
 
-  rest-there : columns 53 100 (tradeLine kind x) ≡ blanks 48
+  rest-there : columns 53 width (tradeLine kind x) ≡ blanks 48
   unfolding tradeLine numberField digitsBefore sideColumns lettersColumns textField filledIf blanks
   rest-there = refl
 
-  long : length (tradeLine kind x) ≡ 100
+  long : length (tradeLine kind x) ≡ width
   unfolding tradeLine numberField digitsBefore sideColumns lettersColumns textField filledIf blanks
   long = refl
 
@@ -109,11 +110,11 @@ module _ (x y : Side) where
   unfolding correctionLine numberField digitsBefore sideColumns lettersColumns textField filledIf blanks
   second-here = refl
 
-  rest-here : columns 99 100 (correctionLine x y) ≡ blanks 2
+  rest-here : columns 99 width (correctionLine x y) ≡ blanks 2
   unfolding correctionLine numberField digitsBefore sideColumns lettersColumns textField filledIf blanks
   rest-here = refl
 
-  long-here : length (correctionLine x y) ≡ 100
+  long-here : length (correctionLine x y) ≡ width
   unfolding correctionLine numberField digitsBefore sideColumns lettersColumns textField filledIf blanks
   long-here = refl
 

@@ -1,6 +1,7 @@
 -- Lines that say given values; the security has number 1. Assumes nothing.
-use Prim.Native.Nat.{ℕ}
+use Prim.Native.Nat.{ℕ, _-_}
 use mathlib.Core.List.{List, [], _∷_, _++_}
+use Rattle.rules.specs.Sizes.{width}
 use Rattle.rules.specs.declared.Mode.{Mode}
 use Rattle.rules.specs.declared.Mode.the-variants.{Normal, Dvd, Rpo, Mpv}
 use Rattle.rules.specs.declared.Side.{Side}
@@ -42,7 +43,7 @@ modeLetter Rpo = 82
 modeLetter Mpv = 80
 
 unfoldable pub modeLine : Mode → List ℕ
-modeLine m = (77 ∷ modeLetter m ∷ []) ++ blanks 98
+modeLine m = (77 ∷ modeLetter m ∷ []) ++ blanks (width - 2)
 
 unfoldable pub levelLine : ℕ → List ℕ
 levelLine n = (86 ∷ []) ++ numberField 6 n ++ blanks 93

@@ -11,6 +11,7 @@ use Rattle.rules.specs.Conditions.{onNetwork}
 use Rattle.rules.specs.Line.{isPrintable, isNetwork, isUnit, isPrice}
 use Rattle.rules.specs.declared.Letters.{Letters}
 use Rattle.rules.specs.declared.Side.{Side}
+use Rattle.rules.specs.Sizes.{nameWidth}
 use Rattle.named.specs.Plain.{NamePlain}
 use Rattle.named.specs.Cut.{oneSold}
 
@@ -19,7 +20,7 @@ pub record Enterable (network unit : ℕ) (name : List ℕ) : Type 0 where
   pub on : isNetwork network ≡ true
   pub trades-in : isUnit unit ≡ true
   pub plain : NamePlain network name
-  pub sized : length name ≡ 19
+  pub sized : length name ≡ nameWidth
   pub printable : all isPrintable name ≡ true
 
 abbrev pub one : Bool → ℕ

@@ -3,6 +3,10 @@
 use input::State;
 use libc::STDERR_FILENO;
 use libc::STDOUT_FILENO;
+use table::NAMES_SIZE;
+use table::Names;
+use table::TABLE_SIZE;
+use table::Table;
 ghost use Prim.Native.Nat.{_≤_, _<_};
 ghost use lib.ListN.{length};
 ghost use Rattle.input.specs.State.{Within};
@@ -20,8 +24,8 @@ fn write_out(tape: &[u8], n: usize, refusals: &[u8], k: usize) -> bool
 // The lines of what is left go to the engine, as many as there is room for, and what they print is written.
 fn feed_lines(
     s: State,
-    table: &mut [u64; 5632],
-    names: &mut [u8; 9728],
+    table: &mut Table,
+    names: &mut Names,
     block: &[u8],
     tape: &mut [u8],
     refusals: &mut [u8],
@@ -52,8 +56,8 @@ fn feed_lines(
 // All that is left goes to the engine as one line: the last line, or the first block of a line that is longer.
 fn feed_rest(
     s: State,
-    table: &mut [u64; 5632],
-    names: &mut [u8; 9728],
+    table: &mut Table,
+    names: &mut Names,
     block: &[u8],
     tape: &mut [u8],
     refusals: &mut [u8],
@@ -83,8 +87,8 @@ fn feed_rest(
 // No line feed is left: a block that is not full is filled up, any other goes to the engine.
 fn refill(
     s: State,
-    table: &mut [u64; 5632],
-    names: &mut [u8; 9728],
+    table: &mut Table,
+    names: &mut Names,
     block: &mut [u8],
     tape: &mut [u8],
     refusals: &mut [u8],
@@ -104,8 +108,8 @@ fn refill(
 // One turn: lines are fed and what they print is written, or the block is filled up.
 fn turn(
     s: State,
-    table: &mut [u64; 5632],
-    names: &mut [u8; 9728],
+    table: &mut Table,
+    names: &mut Names,
     block: &mut [u8],
     tape: &mut [u8],
     refusals: &mut [u8],
@@ -127,13 +131,7 @@ fn turn(
 }
 
 // Turns until the input ends; then what is left is the last line, if it has at least one byte.
-fn run(
-    table: &mut [u64; 5632],
-    names: &mut [u8; 9728],
-    block: &mut [u8],
-    tape: &mut [u8],
-    refusals: &mut [u8],
-)
+fn run(table: &mut Table, names: &mut Names, block: &mut [u8], tape: &mut [u8], refusals: &mut [u8])
     requires { ⌜ 0 < length (now block) ⌝ }
 {
     let mut s = input::started();
@@ -148,8 +146,8 @@ fn run(
 }
 
 fn main() {
-    let mut table = [0u64; 5632];
-    let mut names = [0u8; 9728];
+    let mut table = [0u64; TABLE_SIZE];
+    let mut names = [0u8; NAMES_SIZE];
     let mut block = [0u8; 262144];
     let mut tape = [0u8; 65536];
     let mut refusals = [0u8; 65536];

@@ -4,6 +4,7 @@ use mathlib.Core.Path.{_≡_, sym, ap, _∙_}
 use mathlib.Core.Bool.{Bool, true, false, _&&_, not}
 use mathlib.Core.List.{List}
 use borrow.Author.Tests.{not-true, not-false}
+use Rattle.rules.specs.Sizes.{width}
 use Rattle.rules.specs.declared.Number.{Number}
 use Rattle.rules.specs.declared.Parsed.{Parsed}
 use Rattle.rules.specs.declared.Line.the-variants.{Traded, Cancelled, Erred, Corrected}
@@ -23,7 +24,7 @@ pub trade-read : (line : List ℕ) (number : Number) (side : SideRead) (rest for
     → v ≡ valueOf number
     → number ≡ numberIn (columns 2 5 line)
     → side ≡ sideRead (firstSide line)
-    → rest ≡ blank (columns 53 100 line)
+    → rest ≡ blank (columns 53 width line)
     → market ≡ column 6 line
     → (record { formed = formed; ranged = ranged; trade = record { security = v; market = market; side = side .side; lawful = side .lawful; matched = side .matched } }) ≡ tradeRead line
 unfolding tradeFormedBy tradeRangedBy tradeRead tradeFormed tradeRanged tradeOf sideRead
@@ -53,7 +54,7 @@ pub correction-read : (line : List ℕ) (number : Number) (first second : SideRe
     → number ≡ numberIn (columns 2 5 line)
     → first ≡ sideRead (firstSide line)
     → second ≡ sideRead (secondSide line)
-    → rest ≡ blank (columns 99 100 line)
+    → rest ≡ blank (columns 99 width line)
     → market ≡ column 6 line
     → (record { formed = formed; ranged = ranged; line = Corrected (record { security = v; market = market; original = first .side; correcting = second .side; lawful = lawful; matched = matched }) }) ≡ correctedRead line
 unfolding tradeFormedBy tradeRangedBy correctionFormed correctionRanged correctionOf sideRead

@@ -1,13 +1,18 @@
-// A day line, read from its 100 columns (document 01, Day lines): each field in its form, each number within its values,
+// A day line, read from its columns (document 01, Day lines): each field in its form, each number within its values,
 // and the line as a value. What needs the day's state is not asked here.
 use rules::Correction;
+use rules::FIRST_SIDE;
 use rules::Line;
 use rules::Number;
 use rules::Parsed;
 use rules::Refusal;
+use rules::SECOND_SIDE;
+use rules::SIDES_END;
 use rules::Trade;
+use rules::WIDTH;
 ghost use mathlib.Core.Path.{_≡_};
 ghost use lib.ListN.{length};
+ghost use Rattle.rules.specs.Sizes.{width};
 ghost use Rattle.rules.specs.Columns.{column};
 ghost use Rattle.rules.specs.Line.{ofKind};
 ghost use Rattle.dayline.specs.Fields.{tradeFormedBy, tradeRangedBy, tradeRead, tradedRead, cancelledRead, erredRead, correctedRead, readingOf};
@@ -54,13 +59,13 @@ fn trade_ranged(security: u64, sides: bool) -> bool
 
 // The fields of a T, X or E line.
 pub fn read_trade(line: &[u8]) -> TradeRead
-    requires { ⌜ length (now line) ≡ 100 ⌝ }
+    requires { ⌜ length (now line) ≡ width ⌝ }
     ensures { λ r. ⌜ r ≡ tradeRead (now (line .entry)) ⌝ }
 {
     let number = numbers::read_number(&line[1..5]);
     let market = line[5];
-    let read = dayside::read_side(&line[6..52]);
-    let blank = field::is_blank_rest(&line[52..100]);
+    let read = dayside::read_side(&line[FIRST_SIDE..SECOND_SIDE]);
+    let blank = field::is_blank_rest(&line[SECOND_SIDE..WIDTH]);
     let security = numbers::value_of(number);
     let side = read.side;
     let trade = Trade {
@@ -78,7 +83,7 @@ pub fn read_trade(line: &[u8]) -> TradeRead
 }
 
 fn read_traded(line: &[u8]) -> Parsed
-    requires { ⌜ length (now line) ≡ 100 ⌝ }
+    requires { ⌜ length (now line) ≡ width ⌝ }
     ensures { λ r. ⌜ r ≡ tradedRead (now (line .entry)) ⌝ }
 {
     let read = read_trade(line);
@@ -91,7 +96,7 @@ fn read_traded(line: &[u8]) -> Parsed
 }
 
 fn read_cancelled(line: &[u8]) -> Parsed
-    requires { ⌜ length (now line) ≡ 100 ⌝ }
+    requires { ⌜ length (now line) ≡ width ⌝ }
     ensures { λ r. ⌜ r ≡ cancelledRead (now (line .entry)) ⌝ }
 {
     let read = read_trade(line);
@@ -104,7 +109,7 @@ fn read_cancelled(line: &[u8]) -> Parsed
 }
 
 fn read_erred(line: &[u8]) -> Parsed
-    requires { ⌜ length (now line) ≡ 100 ⌝ }
+    requires { ⌜ length (now line) ≡ width ⌝ }
     ensures { λ r. ⌜ r ≡ erredRead (now (line .entry)) ⌝ }
 {
     let read = read_trade(line);
@@ -118,14 +123,14 @@ fn read_erred(line: &[u8]) -> Parsed
 
 // A C line: each side is handed to the reader as a part that starts in the line's middle.
 fn read_correction(line: &[u8]) -> Parsed
-    requires { ⌜ length (now line) ≡ 100 ⌝ }
+    requires { ⌜ length (now line) ≡ width ⌝ }
     ensures { λ r. ⌜ r ≡ correctedRead (now (line .entry)) ⌝ }
 {
     let number = numbers::read_number(&line[1..5]);
     let market = line[5];
-    let first = dayside::read_side(&line[6..52]);
-    let second = dayside::read_side(&line[52..98]);
-    let blank = field::is_blank_part(&line[98..100]);
+    let first = dayside::read_side(&line[FIRST_SIDE..SECOND_SIDE]);
+    let second = dayside::read_side(&line[SECOND_SIDE..SIDES_END]);
+    let blank = field::is_blank_part(&line[SIDES_END..WIDTH]);
     let security = numbers::value_of(number);
     let original = first.side;
     let correcting = second.side;
@@ -153,7 +158,7 @@ fn read_correction(line: &[u8]) -> Parsed
 
 // A line of a known kind.
 pub fn read_kind(line: &[u8]) -> Parsed
-    requires { ⌜ length (now line) ≡ 100 ⌝ }
+    requires { ⌜ length (now line) ≡ width ⌝ }
     ensures { λ r. ⌜ r ≡ ofKind (column 1 (now (line .entry))) (now (line .entry)) ⌝ }
 {
     let kind = line[0];
@@ -188,7 +193,7 @@ pub fn read_kind(line: &[u8]) -> Parsed
 pub fn read_line(line: &[u8]) -> Reading
     ensures { λ r. ⌜ r ≡ readingOf (now (line .entry)) ⌝ }
 {
-    if line.len() != 100 {
+    if line.len() != WIDTH {
         return Reading::Refused(Refusal::Shape);
     }
     if !field::is_printable_text(line) {

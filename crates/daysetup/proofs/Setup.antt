@@ -3,6 +3,7 @@ use Prim.Native.Nat.{ℕ}
 use mathlib.Core.Path.{_≡_}
 use mathlib.Core.Bool.{Bool, true, _&&_}
 use mathlib.Core.List.{List}
+use Rattle.rules.specs.Sizes.{width}
 use Rattle.rules.specs.declared.Number.{Number}
 use Rattle.rules.specs.declared.Mode.{Mode}
 use Rattle.rules.specs.declared.Line.the-variants.{Dated, Listed, Moded, Leveled, Stepped}
@@ -14,19 +15,19 @@ use Rattle.daysetup.specs.Setup.{listingFormedBy, listingRangedBy, dateR
 -- ---- one number or letter, then blanks
 
 module _ (line : List ℕ) (x : Number) (given rest formed ranged : Bool) (v : ℕ) (f : formed ≡ (given && rest)) (g : given ≡ isNumber x) (e : v ≡ valueOf x) where
-  pub date-read : x ≡ numberIn (columns 2 9 line) → rest ≡ blank (columns 10 100 line) → ranged ≡ isDate v → (record { formed = formed; ranged = ranged; line = Dated v }) ≡ dateRead line
+  pub date-read : x ≡ numberIn (columns 2 9 line) → rest ≡ blank (columns 10 width line) → ranged ≡ isDate v → (record { formed = formed; ranged = ranged; line = Dated v }) ≡ dateRead line
   unfolding dateFormed dateRanged
   date-read a b r = rw (f, g, r, e, a, b)
 
-  pub level-read : x ≡ numberIn (columns 2 7 line) → rest ≡ blank (columns 8 100 line) → ranged ≡ between 5000 100000 v → (record { formed = formed; ranged = ranged; line = Leveled v }) ≡ levelRead line
+  pub level-read : x ≡ numberIn (columns 2 7 line) → rest ≡ blank (columns 8 width line) → ranged ≡ between 5000 100000 v → (record { formed = formed; ranged = ranged; line = Leveled v }) ≡ levelRead line
   unfolding levelFormed levelRanged
   level-read a b r = rw (f, g, r, e, a, b)
 
-  pub step-read : x ≡ numberIn (columns 2 4 line) → rest ≡ blank (columns 5 100 line) → ranged ≡ between 1 100 v → (record { formed = formed; ranged = ranged; line = Stepped v }) ≡ stepRead line
+  pub step-read : x ≡ numberIn (columns 2 4 line) → rest ≡ blank (columns 5 width line) → ranged ≡ between 1 100 v → (record { formed = formed; ranged = ranged; line = Stepped v }) ≡ stepRead line
   unfolding stepFormed stepRanged
   step-read a b r = rw (f, g, r, e, a, b)
 
-pub mode-read : (line : List ℕ) (given rest formed : Bool) (mode : Mode) → formed ≡ (given && rest) → given ≡ isMode (column 2 line) → rest ≡ blank (columns 3 100 line) → mode ≡ modeOf (column 2 line) → (record { formed = formed; ranged = true; line = Moded mode }) ≡ modeRead line
+pub mode-read : (line : List ℕ) (given rest formed : Bool) (mode : Mode) → formed ≡ (given && rest) → given ≡ isMode (column 2 line) → rest ≡ blank (columns 3 width line) → mode ≡ modeOf (column 2 line) → (record { formed = formed; ranged = true; line = Moded mode }) ≡ modeRead line
 unfolding modeFormed
 mode-read line given rest formed mode f g b e = rw (f, g, b, e)
 
@@ -43,7 +44,7 @@ pub listing-read : (line : List ℕ) (number unit first : Number) (root rest for
     → root ≡ isRoot (columns 6 11 line)
     → unit ≡ numberIn (columns 25 27 line)
     → first ≡ numberIn (columns 30 30 line)
-    → rest ≡ blank (columns 31 100 line)
+    → rest ≡ blank (columns 31 width line)
     → network ≡ column 28 line
     → market ≡ column 29 line
     → o ≡ column 28 line

@@ -1,21 +1,23 @@
-// The lines that set up a day, D, S, M, V and P, read from their 100 columns (document 01, Day lines): each field in its
+// The lines that set up a day, D, S, M, V and P, read from their columns (document 01, Day lines): each field in its
 // form, each number within its values, and the line as a value. What needs the day's state is not asked here.
 use rules::Line;
 use rules::Listing;
 use rules::Number;
 use rules::Parsed;
+use rules::WIDTH;
 ghost use mathlib.Core.Path.{_≡_};
 ghost use lib.ListN.{length};
+ghost use Rattle.rules.specs.Sizes.{width};
 ghost use Rattle.daysetup.specs.Setup.{listingFormedBy, listingRangedBy, dateRead, listingRead, modeRead, levelRead, stepRead};
 
-// ---- the kinds; each line has 100 columns
+// ---- the kinds; each line has the width of one
 
 pub fn read_date(line: &[u8]) -> Parsed
-    requires { ⌜ length (now line) ≡ 100 ⌝ }
+    requires { ⌜ length (now line) ≡ width ⌝ }
     ensures { λ r. ⌜ r ≡ dateRead (now (line .entry)) ⌝ }
 {
     let date = numbers::read_number(&line[1..9]);
-    let blank = field::is_blank_part(&line[9..100]);
+    let blank = field::is_blank_part(&line[9..WIDTH]);
     let n = numbers::value_of(date);
     Parsed {
         formed: dayside::both(numbers::is_number(date), blank),
@@ -25,11 +27,11 @@ pub fn read_date(line: &[u8]) -> Parsed
 }
 
 pub fn read_mode(line: &[u8]) -> Parsed
-    requires { ⌜ length (now line) ≡ 100 ⌝ }
+    requires { ⌜ length (now line) ≡ width ⌝ }
     ensures { λ r. ⌜ r ≡ modeRead (now (line .entry)) ⌝ }
 {
     let c = line[1];
-    let blank = field::is_blank_part(&line[2..100]);
+    let blank = field::is_blank_part(&line[2..WIDTH]);
     let mode = field::mode_of(c);
     Parsed {
         formed: dayside::both(field::is_mode(c), blank),
@@ -39,11 +41,11 @@ pub fn read_mode(line: &[u8]) -> Parsed
 }
 
 pub fn read_level(line: &[u8]) -> Parsed
-    requires { ⌜ length (now line) ≡ 100 ⌝ }
+    requires { ⌜ length (now line) ≡ width ⌝ }
     ensures { λ r. ⌜ r ≡ levelRead (now (line .entry)) ⌝ }
 {
     let level = numbers::read_number(&line[1..7]);
-    let blank = field::is_blank_part(&line[7..100]);
+    let blank = field::is_blank_part(&line[7..WIDTH]);
     let n = numbers::value_of(level);
     Parsed {
         formed: dayside::both(numbers::is_number(level), blank),
@@ -53,11 +55,11 @@ pub fn read_level(line: &[u8]) -> Parsed
 }
 
 pub fn read_step(line: &[u8]) -> Parsed
-    requires { ⌜ length (now line) ≡ 100 ⌝ }
+    requires { ⌜ length (now line) ≡ width ⌝ }
     ensures { λ r. ⌜ r ≡ stepRead (now (line .entry)) ⌝ }
 {
     let step = numbers::read_number(&line[1..4]);
-    let blank = field::is_blank_part(&line[4..100]);
+    let blank = field::is_blank_part(&line[4..WIDTH]);
     let n = numbers::value_of(step);
     Parsed {
         formed: dayside::both(numbers::is_number(step), blank),
@@ -111,7 +113,7 @@ fn listing_ranged(number: u64, unit: u64, first: u64) -> bool
 }
 
 pub fn read_listing(line: &[u8]) -> Parsed
-    requires { ⌜ length (now line) ≡ 100 ⌝ }
+    requires { ⌜ length (now line) ≡ width ⌝ }
     ensures { λ r. ⌜ r ≡ listingRead (now (line .entry)) ⌝ }
 {
     let number = numbers::read_number(&line[1..5]);
@@ -120,7 +122,7 @@ pub fn read_listing(line: &[u8]) -> Parsed
     let network = line[27];
     let market = line[28];
     let first = numbers::read_number(&line[29..30]);
-    let blank = field::is_blank_part(&line[30..100]);
+    let blank = field::is_blank_part(&line[30..WIDTH]);
     let listing = Listing {
         number: numbers::value_of(number),
         unit: numbers::value_of(unit),

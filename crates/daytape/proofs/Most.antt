@@ -1,4 +1,4 @@
--- No print is longer than 400 bytes, in any mode. Assumes nothing.
+-- No print is longer than `longestPrint` bytes, in any mode. Assumes nothing.
 use Prim.Native.Nat.{ℕ, _≤_}
 use native.Mathlib.Omega.{arith}
 use mathlib.Core.Path.{_≡_, refl}
@@ -11,6 +11,7 @@ use Rattle.rules.specs.Correction.{cancelOpening, errorOpening}
 use Rattle.rules.specs.Line.{isSecurityNumber, sideRanged, sideBy, sideOf, firstSide, secondSide, tradeRanged, tradeOf, correctionRanged, correctionOf}
 use Rattle.rules.specs.Day.{Day, tradePrint, cancelPrint, correctionPrint, printOf}
 use Rattle.rules.specs.declared.Line.{Line}
+use Rattle.rules.specs.Sizes.{longestPrint}
 use Rattle.widths.proofs.Below.{number-below}
 use Rattle.trade.proofs.Short.{Short}
 use Rattle.symbol.proofs.Text.{name-most}
@@ -40,7 +41,7 @@ module _ (day : Day) (line : List ℕ) (set : between 1 100 (day .settings .mini
   first-fits : (security : ℕ) → (isSecurityNumber security && sideRanged (firstSide line)) ≡ true → Short (sideOf (firstSide line))
   first-fits security r = side-fits (firstSide line) (and-right (isSecurityNumber security) _ r)
 
-  pub print-by : {l : Line} → Of line l → length (printOf day l) ≤ 400
+  pub print-by : {l : Line} → Of line l → length (printOf day l) ≤ longestPrint
   unfolding printOf tradePrint cancelPrint correctionPrint tradeRanged tradeOf correctionRanged correctionOf
   print-by (of-date n) = omega arith
   print-by (of-listing f r) = omega arith

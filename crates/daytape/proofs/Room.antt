@@ -1,4 +1,4 @@
--- Where 400 bytes are lent no line is refused 13, and more room changes nothing. Assumes nothing.
+-- Where `longestPrint` bytes are lent no line is refused 13, and more room changes nothing. Assumes nothing.
 use Prim.Native.Nat.{ℕ, _≤_}
 use native.Mathlib.Omega.{arith}
 use mathlib.Core.Path.{_≡_, refl, sym, ap, _∙_}
@@ -17,6 +17,7 @@ use Rattle.rules.specs.declared.Line.{Line}
 use Rattle.rules.specs.declared.Line.the-variants.{Dated, Listed, Moded, Leveled, Stepped, Traded, Cancelled, Erred, Corrected}
 use Rattle.rules.specs.declared.Refusal.{Refusal}
 use Rattle.rules.specs.declared.Refusal.the-variants.{Shape, Kind, NoDate, Form, Value, NotEntered, InUse, Name, SameName, Conditions, Unmatched, DateOrder, Room}
+use Rattle.rules.specs.Sizes.{longestPrint}
 use Rattle.normal.specs.Invariant.{Invariant}
 use Rattle.normal.proofs.Views.{of-kind}
 use Rattle.daytape.specs.Claim.{ample}
@@ -62,7 +63,7 @@ chain a b c d e day name l h =
 
 module _ (day : Day) (line : List ℕ) (reached : Invariant day) where
   -- every line in its form and within its values
-  fits : isFormed line ≡ true → isRanged line ≡ true → length (printOf day (lineOf line)) ≤ 400
+  fits : isFormed line ≡ true → isRanged line ≡ true → length (printOf day (lineOf line)) ≤ longestPrint
   unfolding lineOf isFormed isRanged
   fits f r = print-by day line (reached .minimum-set) (of-kind (column 1 line) line f r)
 
@@ -70,7 +71,7 @@ module _ (day : Day) (line : List ℕ) (reached : Invariant day) where
   abbrev last : ℕ → Option Refusal
   last room = refuse (ltb room (length (printOf day (lineOf line)))) Room none
 
-  module _ (room : ℕ) (enough : 400 ≤ room) where
+  module _ (room : ℕ) (enough : longestPrint ≤ room) where
     fits-then : isFormed line ≡ true → isRanged line ≡ true → last room ≡ none
     unfolding refuse pick
     fits-then f r = rw (le-ltb room (length (printOf day (lineOf line))) (omega (arith, fits f r, enough)))
@@ -94,9 +95,9 @@ module _ (day : Day) (line : List ℕ) (reached : Invariant day) where
     never-short h = chain _ _ _ _ _ day (nameColumns line) (lineOf line) (ap numbered (sym roomless ∙ h))
 
   -- more room changes nothing: refusal, print and state
-  module _ (room : ℕ) (enough : 400 ≤ room) where
-    pub same-refusal : refusalOf day line room ≡ refusalOf day line 400
-    same-refusal = roomless room enough ∙ sym (roomless 400 (omega arith))
+  module _ (room : ℕ) (enough : longestPrint ≤ room) where
+    pub same-refusal : refusalOf day line room ≡ refusalOf day line longestPrint
+    same-refusal = roomless room enough ∙ sym (roomless longestPrint (omega arith))
 
     pub same-tape : tapeOf day (record { line = line; room = room }) ≡ tapeOf day (ample line)
     unfolding tapeOf

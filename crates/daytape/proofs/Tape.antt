@@ -10,6 +10,7 @@ use borrow.Author.Tests.{leb-true}
 use Rattle.text.specs.Put.{put}
 use Rattle.text.proofs.Texts.{and-left}
 use Rattle.rules.specs.Day.{Day, opened, fresh, refusalOf, tapeOf, after}
+use Rattle.rules.specs.Sizes.{longestPrint}
 use Rattle.planner.specs.declared.Plan.{Plan}
 use Rattle.planner.specs.declared.Plan.the-variants.{Stop, Open, Enter, Change, Level, Step, Print, Cancel, Correct}
 use Rattle.engine.specs.declared.Answer.{Answer}
@@ -45,7 +46,7 @@ told-stop number n (Cancel t) = refl
 told-stop number n (Correct c) = refl
 
 -- a call of the engine on a state that holds a day that can be reached
-module _ (s : State) (day : Day) (sized : Sized s) (holds : Holds s day) (reached : Invariant day) (c : Lent) (enough : 400 ≤ length (c .tape)) where
+module _ (s : State) (day : Day) (sized : Sized s) (holds : Holds s day) (reached : Invariant day) (c : Lent) (enough : longestPrint ≤ length (c .tape)) where
   abbrev q : Plan
   q = asked (s .settings) (s .table) (s .names) (c .line) (length (c .tape))
 
@@ -64,7 +65,7 @@ module _ (s : State) (day : Day) (sized : Sized s) (holds : Holds s day) (reache
   call-prints : printOf (s .settings) (s .names) q ≡ tapeOf day (ample (c .line))
   call-prints = sym (link-tape s m c b r taken refl) ∙ (link-holds s m c b r taken refl day sized holds .0 ∙ same-tape day (c .line) reached (length (c .tape)) enough)
 
-  call-told : (number n : ℕ) → told number (outcomeOf q n) ≡ toldBy number (refusalOf day (c .line) 400)
+  call-told : (number n : ℕ) → told number (outcomeOf q n) ≡ toldBy number (refusalOf day (c .line) longestPrint)
   call-told number n = told-stop number n q ∙ ap (toldBy number) (sym (link-refusal s (c .line) (length (c .tape)) day sized holds) ∙ same-refusal day (c .line) reached (length (c .tape)) enough)
 
   call-sized : Sized m
@@ -76,17 +77,17 @@ module _ (s : State) (day : Day) (sized : Sized s) (holds : Holds s day) (reache
 -- the line at its turn, lent what is left of a tape
 record LineBy (tape : ℕ) (l : List ℕ) (p : Progress) (day : Day) : Type 0 where
   print-is : printAt tape l p ≡ tapeOf day (ample l)
-  told-is : told (p .number) (outcomeOf (turnOf tape l p) (length (printAt tape l p))) ≡ toldBy (p .number) (refusalOf day l 400)
+  told-is : told (p .number) (outcomeOf (turnOf tape l p) (length (printAt tape l p))) ≡ toldBy (p .number) (refusalOf day l longestPrint)
   sized : Sized (stateOf (lineTaken tape l p))
   holds : Holds (stateOf (lineTaken tape l p)) (after day (ample l))
 
-line-by : (tape : ℕ) (l : List ℕ) (p : Progress) (day : Day) → Sized (stateOf p) → Holds (stateOf p) day → Invariant day → 400 ≤ tape - length (p .tape) → LineBy tape l p day
+line-by : (tape : ℕ) (l : List ℕ) (p : Progress) (day : Day) → Sized (stateOf p) → Holds (stateOf p) day → Invariant day → longestPrint ≤ tape - length (p .tape) → LineBy tape l p day
 unfolding printAt turnOf lineTaken carried
 line-by tape l p day z h k enough =
     let room = tape - length (p .tape) in
     let c : Lent = record { line = l; tape = replicate room 0 } in
     let e : length (c .tape) ≡ room = length-replicate room 0 in
-    let wide : 400 ≤ length (c .tape) = omega (arith, e, enough) in
+    let wide : longestPrint ≤ length (c .tape) = omega (arith, e, enough) in
     let a = call-prints (stateOf p) day z h k c wide in
     let t = call-told (stateOf p) day z h k c wide (p .number) in
     let i = call-sized (stateOf p) day z h k c wide in
@@ -127,7 +128,7 @@ module _ (tape refusals : ℕ) where
           → (Sized (stateOf (lineTaken tape l p)) → Holds (stateOf (lineTaken tape l p)) (after day (ample l)) → Invariant (after day (ample l)) → LinesBy tape (handed tape refusals ls (lineTaken tape l p)) (lineTaken tape l p) (after day (ample l)))
           → LinesBy tape (handed tape refusals (l ∷ ls) p) p day
       go true e on =
-          let enough = leb-true 400 (tape - length (p .tape)) (and-left (leb 400 (tape - length (p .tape))) _ e) in
+          let enough = leb-true longestPrint (tape - length (p .tape)) (and-left (leb longestPrint (tape - length (p .tape))) _ e) in
           let a = line-by tape l p day z h k enough in
           rw (handed-on tape refusals l ls p e) (one-more tape l _ p day a (on (a .sized) (a .holds) (held-after day (ample l) k)))
       go false e on = rw (handed-off tape refusals l ls p e) (no-lines tape p day z h k)
@@ -143,7 +144,7 @@ refusals-joined : (day : Day) (n : ℕ) (ls ms : List (List ℕ)) → refusalsOf
 unfolding refusalsOfLines dayOfLines
 refusals-joined day n [] ms = ap (λ (k : ℕ). refusalsOfLines day k ms) (omega arith)
 refusals-joined day n (l ∷ ls) ms =
-    let t = toldBy n (refusalOf day l 400) in
+    let t = toldBy n (refusalOf day l longestPrint) in
     let e : n + 1 + length ls ≡ n + length (l ∷ ls) = omega arith in
     ap (λ (x : List ℕ). t ++ x) (refusals-joined (after day (ample l)) (n + 1) ls ms)
     ∙ (sym (append-assoc t _ _) ∙ ap (λ (k : ℕ). (t ++ refusalsOfLines (after day (ample l)) (n + 1) ls) ++ refusalsOfLines (dayOfLines (after day (ample l)) ls) k ms) e)

@@ -3,6 +3,7 @@ use Prim.Native.Nat.{ℕ, _+_}
 use mathlib.Core.Path.{_≡_}
 use mathlib.Core.List.{List, [], _∷_, _++_}
 use mathlib.Core.Option.{Option, none, some}
+use Rattle.rules.specs.Sizes.{longestPrint}
 use Rattle.rules.specs.Refusal.{numberOf}
 use Rattle.rules.specs.Day.{Day, Call, refusalOf, tapeOf, after}
 use Rattle.rules.specs.declared.Refusal.{Refusal}
@@ -15,7 +16,7 @@ use Rattle.lines.specs.Handed.{handed}
 
 -- a call with room for any print
 abbrev pub ample : List ℕ → Call
-ample line = record { line = line; room = 400 }
+ample line = record { line = line; room = longestPrint }
 
 -- the prints of lines, joined in order: document 01's standard output
 unfoldable pub tapeOfLines : Day → List (List ℕ) → List ℕ
@@ -30,7 +31,7 @@ toldBy number (some r) = refusalLine number (numberOf r)
 -- what is told of lines, the first of them numbered `number`: document 01's standard error
 unfoldable pub refusalsOfLines : Day → ℕ → List (List ℕ) → List ℕ
 refusalsOfLines day number [] = []
-refusalsOfLines day number (l ∷ ls) = toldBy number (refusalOf day l 400) ++ refusalsOfLines (after day (ample l)) (number + 1) ls
+refusalsOfLines day number (l ∷ ls) = toldBy number (refusalOf day l longestPrint) ++ refusalsOfLines (after day (ample l)) (number + 1) ls
 
 unfoldable pub dayOfLines : Day → List (List ℕ) → Day
 dayOfLines day [] = day

@@ -24,6 +24,7 @@ use Rattle.rules.specs.declared.Settings.{Settings}
 use Rattle.rules.specs.declared.Security.{Security}
 use Rattle.rules.specs.declared.Refusal.{Refusal}
 use Rattle.rules.specs.declared.Refusal.the-variants.{NotEntered, Conditions, Room}
+use Rattle.rules.specs.Sizes.{width}
 use Rattle.table.specs.Rows.{row, withRow, nameOf}
 use Rattle.trade.specs.Columns.{SideColumns}
 use Rattle.tradeline.specs.declared.TradeLine.{TradeLine}
@@ -109,9 +110,9 @@ module _ (st : Settings) (line : List ℕ) (t : TradeLine) (h : GoodCall st line
   is-shaped : isShaped line ≡ true
   is-shaped = good-shaped line t (h .read) (h .good)
 
-  pub line-length : length line ≡ 100
+  pub line-length : length line ≡ width
   unfolding isShaped
-  line-length = eqb-true (length line) 100 (and-left (eqb (length line) 100) _ is-shaped)
+  line-length = eqb-true (length line) width (and-left (eqb (length line) width) _ is-shaped)
 
   pub line-room : 52 ≤ length line
   line-room = omega (arith, line-length)

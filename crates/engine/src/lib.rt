@@ -2,8 +2,12 @@
 // of fixed size, every value of which has a meaning; the tape is lent, of any length. Nothing is required. The promise is
 // `Taken`: the outcome, the settings, every byte of both tables and every byte of the tape.
 use planner::Plan;
+use rules::FIRST_SIDE;
 use rules::Refusal;
+use rules::SECOND_SIDE;
 use rules::Settings;
+use table::Names;
+use table::Table;
 use traded::TradeAnswer;
 use tradeline::TradeLine;
 ghost use mathlib.Core.Path.{_≡_};
@@ -48,13 +52,7 @@ pub fn fresh() -> Settings
 }
 
 // What a call asks for that is lent a tape of `room` bytes: its plan, or the refusal that stops it, 13 too.
-pub fn ask_line(
-    st: Settings,
-    table: &[u64; 5632],
-    names: &[u8; 9728],
-    line: &[u8],
-    room: usize,
-) -> Plan
+pub fn ask_line(st: Settings, table: &Table, names: &Names, line: &[u8], room: usize) -> Plan
     ensures { λ r. ⌜ r ≡ asked st (now (table .entry)) (now (names .entry)) (now (line .entry)) room ⌝ }
 {
     let p = planner::plan_line(st, table, names, line);
@@ -66,8 +64,8 @@ pub fn ask_line(
 // A T line that nothing but the day's state can stop, after a D: its security may not be entered (6).
 fn take_good(
     st: Settings,
-    table: &mut [u64; 5632],
-    names: &[u8; 9728],
+    table: &mut Table,
+    names: &Names,
     line: &[u8],
     t: TradeLine,
     tape: &mut [u8],
@@ -80,14 +78,23 @@ fn take_good(
     if !qualifying::is_entered(s) {
         return traded::untaken();
     }
-    traded::carry_out(st, table, names, place, s, t, &line[6..52], tape)
+    traded::carry_out(
+        st,
+        table,
+        names,
+        place,
+        s,
+        t,
+        &line[FIRST_SIDE..SECOND_SIDE],
+        tape,
+    )
 }
 
 // A trade: a T line that the call accepts. With any other line nothing is done, and the answer says so.
 pub fn take_trade(
     st: Settings,
-    table: &mut [u64; 5632],
-    names: &[u8; 9728],
+    table: &mut Table,
+    names: &Names,
     line: &[u8],
     tape: &mut [u8],
 ) -> TradeAnswer
@@ -106,8 +113,8 @@ pub fn take_trade(
 // Any line, by its plan. Whoever calls it hands trades to `take_trade` first.
 pub fn take_by_plan(
     st: Settings,
-    table: &mut [u64; 5632],
-    names: &mut [u8; 9728],
+    table: &mut Table,
+    names: &mut Names,
     line: &[u8],
     tape: &mut [u8],
 ) -> Answer
@@ -127,8 +134,8 @@ pub fn take_by_plan(
 // One call. Most lines are trades; what is none, or is refused, goes by its plan.
 pub fn take_line(
     st: Settings,
-    table: &mut [u64; 5632],
-    names: &mut [u8; 9728],
+    table: &mut Table,
+    names: &mut Names,
     line: &[u8],
     tape: &mut [u8],
 ) -> Answer

@@ -2,6 +2,10 @@
 // A day may have any length: input is read in blocks, lines are explained as parts of a block.
 use input::State;
 use libc::STDOUT_FILENO;
+use table::NAMES_SIZE;
+use table::Names;
+use table::TABLE_SIZE;
+use table::Table;
 ghost use Prim.Native.Nat.{_≤_, _<_};
 ghost use lib.ListN.{length};
 ghost use Rattle.input.specs.State.{Within};
@@ -16,8 +20,8 @@ fn write_out(text: &[u8], n: usize) -> bool
 // The lines of what is left are explained, as many as there is room for, and their explanations are written.
 fn explain_block(
     s: State,
-    table: &mut [u64; 5632],
-    names: &mut [u8; 9728],
+    table: &mut Table,
+    names: &mut Names,
     block: &[u8],
     text: &mut [u8],
 ) -> State
@@ -39,8 +43,8 @@ fn explain_block(
 // All that is left is explained as one line: the last line, or the first block of a line that is longer.
 fn explain_rest(
     s: State,
-    table: &mut [u64; 5632],
-    names: &mut [u8; 9728],
+    table: &mut Table,
+    names: &mut Names,
     block: &[u8],
     text: &mut [u8],
 ) -> State
@@ -61,8 +65,8 @@ fn explain_rest(
 // No line feed is left: a block that is not full is filled up, any other is explained as a line.
 fn refill(
     s: State,
-    table: &mut [u64; 5632],
-    names: &mut [u8; 9728],
+    table: &mut Table,
+    names: &mut Names,
     block: &mut [u8],
     text: &mut [u8],
 ) -> State
@@ -79,13 +83,7 @@ fn refill(
 }
 
 // One turn: lines are explained and their explanations are written, or the block is filled up.
-fn turn(
-    s: State,
-    table: &mut [u64; 5632],
-    names: &mut [u8; 9728],
-    block: &mut [u8],
-    text: &mut [u8],
-) -> State
+fn turn(s: State, table: &mut Table, names: &mut Names, block: &mut [u8], text: &mut [u8]) -> State
     requires { ⌜ Within s (length (now block)) × (0 < length (now block)) ⌝ }
     ensures { λ r. ⌜ Within r (length (now (block .exit))) ⌝ }
 {
@@ -103,7 +101,7 @@ fn turn(
 }
 
 // Turns until the input ends; then what is left is the last line, if it has at least one byte.
-fn run(table: &mut [u64; 5632], names: &mut [u8; 9728], block: &mut [u8], text: &mut [u8])
+fn run(table: &mut Table, names: &mut Names, block: &mut [u8], text: &mut [u8])
     requires { ⌜ 0 < length (now block) ⌝ }
 {
     let mut s = input::started();
@@ -118,8 +116,8 @@ fn run(table: &mut [u64; 5632], names: &mut [u8; 9728], block: &mut [u8], text: 
 }
 
 fn main() {
-    let mut table = [0u64; 5632];
-    let mut names = [0u8; 9728];
+    let mut table = [0u64; TABLE_SIZE];
+    let mut names = [0u8; NAMES_SIZE];
     let mut block = [0u8; 262144];
     let mut text = [0u8; 65536];
     run(&mut table, &mut names, &mut block, &mut text);

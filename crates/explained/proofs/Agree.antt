@@ -15,6 +15,7 @@ use Rattle.rules.specs.declared.Refusal.{Refusal}
 use Rattle.rules.specs.declared.Refusal.the-variants.{Shape, Kind, Form, Value}
 use Rattle.rules.specs.declared.Settings.{Settings}
 use Rattle.rules.proofs.Days.{passed}
+use Rattle.table.specs.Sizes.{tableSize, namesSize}
 use Rattle.dayline.specs.declared.Reading as dayline
 use Rattle.dayline.specs.declared.Reading.the-variants as reading
 use Rattle.dayline.specs.Fields.{readingOf}
@@ -106,7 +107,7 @@ module _ (st : Settings) (table names : List ℕ) where
     fate-by (some r) h = refl
     fate-by none h = read-through h
 
-    module _ (rows : length table ≡ 5632) (places : length names ≡ 9728) where
+    module _ (rows : length table ≡ tableSize) (places : length names ≡ namesSize) where
       fate-is : fateIf (stopOf (asked st table names line room)) (readFate st table (readingOf line)) ≡ fateBy day (record { line = line; room = room })
       unfolding fateBy
       fate-is =

@@ -12,8 +12,11 @@ use rules::Refusal;
 use rules::Security;
 use rules::Settings;
 use rules::Trade;
+use table::Names;
+use table::Table;
 ghost use mathlib.Core.Path.{_≡_};
 ghost use Prim.Native.Nat.{_-_, _≤_};
+ghost use Rattle.rules.specs.Sizes.{securityPlaces};
 ghost use Rattle.table.specs.Rows.{row, dayOf};
 ghost use Rattle.planner.specs.Plan.{SoundTrade, SoundCorrection, SoundLine};
 ghost use Rattle.calls.specs.Held.{stopOf};
@@ -139,7 +142,7 @@ fn security_of(l: Line) -> u64
 
 // The first place where the line has no security.
 fn place_of(number: u64) -> usize
-    requires { ⌜ number ≤ 512 ⌝ }
+    requires { ⌜ number ≤ securityPlaces ⌝ }
     ensures { λ r. ⌜ r ≡ number - 1 ⌝ }
 {
     if number == 0 {
@@ -148,7 +151,7 @@ fn place_of(number: u64) -> usize
     (number - 1) as usize
 }
 
-fn line_fate(st: Settings, table: &[u64; 5632], l: Line) -> Fate
+fn line_fate(st: Settings, table: &Table, l: Line) -> Fate
     requires { ⌜ SoundLine l ⌝ }
     ensures { λ r. ⌜ r ≡ fateAt st (row (now (table .entry)) (securityOf l - 1)) l ⌝ }
 {
@@ -158,7 +161,7 @@ fn line_fate(st: Settings, table: &[u64; 5632], l: Line) -> Fate
     fate_at(st, s, l)
 }
 
-fn read_fate(st: Settings, table: &[u64; 5632], reading: Reading) -> Fate
+fn read_fate(st: Settings, table: &Table, reading: Reading) -> Fate
     requires { ⌜ SoundReading reading ⌝ }
     ensures { λ r. ⌜ r ≡ readFate st (now (table .entry)) reading ⌝ }
 {
@@ -212,8 +215,8 @@ fn fate_of(p: Plan, taken: Fate) -> Fate
 // What becomes of a line in a call that is lent a tape of `room` bytes, by the state that it finds.
 pub fn explain_line(
     st: Settings,
-    table: &[u64; 5632],
-    names: &[u8; 9728],
+    table: &Table,
+    names: &Names,
     line: &[u8],
     room: usize,
 ) -> Explanation

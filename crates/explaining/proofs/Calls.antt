@@ -10,6 +10,8 @@ use Rattle.text.specs.Put.{Written}
 use Rattle.text.proofs.Writing.{then}
 use Rattle.rules.specs.Day.{Day, Call, after}
 use Rattle.rules.specs.declared.Settings.{Settings}
+use Rattle.rules.specs.Sizes.{longestPrint}
+use Rattle.table.specs.Sizes.{tableSize, namesSize}
 use Rattle.table.specs.Rows.{dayOf}
 use Rattle.engine.specs.declared.Answer.{Answer}
 use Rattle.engine.specs.Taken.{Taken}
@@ -25,14 +27,14 @@ use Rattle.explaining.specs.declared.Step.{Step}
 use Rattle.explaining.specs.declared.Told.{Told}
 
 -- an explanation's line fits
-pub line-room : (day : Day) (line : List ℕ) (number m : ℕ) (e : Explanation) → e ≡ explainedBy day (record { line = line; room = 200 }) → number ≤ 9999999999 → 238 ≤ m → length (lineOf number e) ≤ m
+pub line-room : (day : Day) (line : List ℕ) (number m : ℕ) (e : Explanation) → e ≡ explainedBy day (record { line = line; room = longestPrint }) → number ≤ 9999999999 → 238 ≤ m → length (lineOf number e) ≤ m
 line-room day line number m e h k l =
     let small : e .security ≤ 512 = rw h (explained-small day (call line)) in
     omega (arith, line-short number e k small)
 
 module _ (st : Settings) (number : ℕ) (table names line tape table′ names′ tape′ rest rest′ : List ℕ) (a : Answer) (e : Explanation) (n : ℕ) where
-  pub call-explained : Taken st table names line tape table′ names′ tape′ a → length table ≡ 5632 → length names ≡ 9728 → length tape ≡ 200
-      → e ≡ explainedBy (dayOf st table names) (record { line = line; room = 200 }) → Written (lineOf number e) rest rest′ n
+  pub call-explained : Taken st table names line tape table′ names′ tape′ a → length table ≡ tableSize → length names ≡ namesSize → length tape ≡ longestPrint
+      → e ≡ explainedBy (dayOf st table names) (record { line = line; room = longestPrint }) → Written (lineOf number e) rest rest′ n
       → Explains st number table names line rest table′ names′ rest′ (record { settings = a .settings; count = n })
   call-explained t rows places size h w =
       let s : State = record { settings = st; table = table; names = names } in

@@ -4,6 +4,7 @@ use native.Mathlib.Omega.{arith}
 use mathlib.Core.Path.{_≡_, refl, sym, ap, _∙_}
 use mathlib.Core.List.{List, [], _∷_, _++_, append-assoc, append-nil}
 use lib.ListN.{length, length-append, replicate}
+use Rattle.table.specs.Sizes.{tableSize, namesSize}
 use Rattle.rules.specs.Day.{Day, opened, fresh, after}
 use Rattle.rules.specs.declared.Settings.{Settings}
 use Rattle.table.specs.Rows.{dayOf}
@@ -43,8 +44,8 @@ block-explained room block st table names number h k = lines-explained room (cut
 
 -- a day, from a fresh state and cleared tables
 pub day-explained : (room : ℕ) (block : List ℕ) → length (explainedText fresh 1 (cut block .ended)) + 238 ≤ room → 1 + length (cut block .ended) ≤ 10000000000
-    → blockExplained room block (started (opened 0) (replicate 5632 0) (replicate 9728 0) 1) .text ≡ explainedText fresh 1 (cut block .ended)
+    → blockExplained room block (started (opened 0) (replicate tableSize 0) (replicate namesSize 0) 1) .text ≡ explainedText fresh 1 (cut block .ended)
 unfolding fresh
 day-explained room block h k =
     let e = held-cleared 0 in
-    block-explained room block (opened 0) (replicate 5632 0) (replicate 9728 0) 1 (rw e h) k ∙ ap (λ (d : Day). explainedText d 1 (cut block .ended)) e
+    block-explained room block (opened 0) (replicate tableSize 0) (replicate namesSize 0) 1 (rw e h) k ∙ ap (λ (d : Day). explainedText d 1 (cut block .ended)) e

@@ -1,4 +1,4 @@
--- What a block of day lines is explained to, by the rules: its lines are taken in order, each call lent a tape of 200 bytes, and the lines of the explanations are joined. Assumes nothing.
+-- What a block of day lines is explained to, by the rules: its lines are taken in order, each call lent a tape of `longestPrint` bytes, and the lines of the explanations are joined. Assumes nothing.
 use Prim.Native.Nat.{ℕ, _+_, _-_, _≤_}
 use mathlib.Core.Path.{_≡_}
 use mathlib.Core.Bool.{Bool, true, false, _&&_}
@@ -8,6 +8,7 @@ use lib.ListN.{length}
 use Rattle.text.specs.Put.{Written}
 use Rattle.rules.specs.Day.{Day, Call, after}
 use Rattle.rules.specs.declared.Settings.{Settings}
+use Rattle.rules.specs.Sizes.{longestPrint}
 use Rattle.table.specs.Rows.{dayOf}
 use Rattle.blocks.specs.Lines.{cut}
 use Rattle.explained.specs.Explained.{explainedBy}
@@ -16,7 +17,7 @@ use Rattle.explaining.specs.declared.Step.{Step}
 use Rattle.explaining.specs.declared.Told.{Told}
 
 abbrev pub call : List ℕ → Call
-call line = record { line = line; room = 200 }
+call line = record { line = line; room = longestPrint }
 
 -- one call: state, line and the lent rest at entry, state and rest at exit, and the answer
 pub record Explains (st : Settings) (number : ℕ) (table names line rest table′ names′ rest′ : List ℕ) (r : Step) : Type 0 where

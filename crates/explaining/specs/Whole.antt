@@ -6,7 +6,7 @@ use Rattle.explained.specs.Explained.{explainedBy}
 use Rattle.explainline.specs.Lines.{lineOf}
 use Rattle.explaining.specs.Explains.{call}
 
--- one line for each, numbered from `number` on, each call lent a tape of 200 bytes
+-- one line for each, numbered from `number` on, each call lent a tape of `longestPrint` bytes
 unfoldable pub explainedText : Day → ℕ → List (List ℕ) → List ℕ
 explainedText day number [] = []
 explainedText day number (l ∷ ls) = lineOf number (explainedBy day (call l)) ++ explainedText (after day (call l)) (number + 1) ls

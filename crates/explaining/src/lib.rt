@@ -1,6 +1,9 @@
 // A block of day lines to the lines of their explanations: each line is explained, goes to the engine as a part of the block,
-// and its explanation is gathered in a lent block. A call is lent a tape of 200 bytes.
+// and its explanation is gathered in a lent block. A call is lent a tape of LONGEST_PRINT bytes.
+use rules::LONGEST_PRINT;
 use rules::Settings;
+use table::Names;
+use table::Table;
 ghost use mathlib.Core.List.{[], _∷_};
 ghost use Prim.Native.Nat.{_-_, _≤_};
 ghost use lib.ListN.{length, take, drop};
@@ -25,8 +28,8 @@ pub struct Told {
 fn take_explained(
     st: Settings,
     number: u64,
-    table: &mut [u64; 5632],
-    names: &mut [u8; 9728],
+    table: &mut Table,
+    names: &mut Names,
     line: &[u8],
     rest: &mut [u8],
 ) -> Step
@@ -36,8 +39,8 @@ fn take_explained(
     // as slices the tables tell their sizes
     let _rows = &table[..];
     let _places = &names[..];
-    let mut tape = [0u8; 200];
-    let e = explained::explain_line(st, table, names, line, 200);
+    let mut tape = [0u8; LONGEST_PRINT];
+    let e = explained::explain_line(st, table, names, line, LONGEST_PRINT);
     let a = engine::take_line(st, table, names, line, &mut tape);
     let settings = a.settings;
     let k = explainline::write_explanation(rest, number, e);
@@ -50,8 +53,8 @@ fn take_explained(
 // The line from where the reading stands up to `end`.
 fn explain_part(
     s: Told,
-    table: &mut [u64; 5632],
-    names: &mut [u8; 9728],
+    table: &mut Table,
+    names: &mut Names,
     block: &[u8],
     end: usize,
     text: &mut [u8],
@@ -78,8 +81,8 @@ fn explain_part(
 pub fn explain_lines(
     settings: Settings,
     number: u64,
-    table: &mut [u64; 5632],
-    names: &mut [u8; 9728],
+    table: &mut Table,
+    names: &mut Names,
     block: &[u8],
     text: &mut [u8],
 ) -> Told
@@ -110,8 +113,8 @@ pub fn explain_lines(
 pub fn explain_last(
     settings: Settings,
     number: u64,
-    table: &mut [u64; 5632],
-    names: &mut [u8; 9728],
+    table: &mut Table,
+    names: &mut Names,
     line: &[u8],
     text: &mut [u8],
 ) -> Told

@@ -4,6 +4,8 @@ use engine::Outcome;
 use reader::ReadAnswer;
 use rules::Mode;
 use rules::Settings;
+use table::Names;
+use table::Table;
 ghost use mathlib.Core.Path.{_≡_};
 ghost use Rattle.rules.specs.Day.{opened};
 ghost use Rattle.rules.specs.Shown.{shownBy};
@@ -118,8 +120,8 @@ pub extern "C" fn lekphimon_fresh(settings: &mut [u64; 4])
 #[no_mangle]
 pub extern "C" fn lekphimon_take_line(
     settings: &mut [u64; 4],
-    table: &mut [u64; 5632],
-    names: &mut [u8; 9728],
+    table: &mut Table,
+    names: &mut Names,
     line: &[u8],
     tape: &mut [u8],
     count: &mut u64,
@@ -141,8 +143,8 @@ pub extern "C" fn lekphimon_take_line(
 #[no_mangle]
 pub extern "C" fn lekphimon_shown(
     settings: &[u64; 4],
-    table: &[u64; 5632],
-    names: &[u8; 9728],
+    table: &Table,
+    names: &Names,
     line: &[u8],
     room: usize,
     numbers: &mut [u64; 13],

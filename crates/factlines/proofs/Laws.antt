@@ -12,7 +12,7 @@ use Rattle.rules.specs.declared.Settings.{Settings}
 use Rattle.blocks.specs.Lines.{cut}
 use Rattle.lines.specs.Handed.{unlines}
 use Rattle.lines.proofs.Whole.{cut-whole}
-use Rattle.showing.specs.Shows.{Progress, started, lineShown, linesShown, blockShown, Stands}
+use Rattle.showing.specs.Shows.{Progress, started, lineShown, linesShown, blockShown, Stands, factRoom}
 use Rattle.showing.specs.declared.Shown.{Shown}
 use Rattle.input.specs.State.{Within}
 use Rattle.input.specs.declared.State.{State}
@@ -21,9 +21,9 @@ use Rattle.input.specs.declared.State.{State}
 shown-at : (room : ℕ) (ls : List (List ℕ)) (p : Progress) → linesShown room ls p .at ≤ p .at + length (unlines ls)
 unfolding linesShown lineShown unlines
 shown-at room [] p = omega arith
-shown-at room (l ∷ ls) p = go (leb 386 (room - length (p .facts))) refl (shown-at room ls (lineShown l p))
+shown-at room (l ∷ ls) p = go (leb factRoom (room - length (p .facts))) refl (shown-at room ls (lineShown l p))
   where
-    go : (b : Bool) → leb 386 (room - length (p .facts)) ≡ b → linesShown room ls (lineShown l p) .at ≤ lineShown l p .at + length (unlines ls) → linesShown room (l ∷ ls) p .at ≤ p .at + length (unlines (l ∷ ls))
+    go : (b : Bool) → leb factRoom (room - length (p .facts)) ≡ b → linesShown room ls (lineShown l p) .at ≤ lineShown l p .at + length (unlines ls) → linesShown room (l ∷ ls) p .at ≤ p .at + length (unlines (l ∷ ls))
     go true e h = rw (e, linesShown) (omega (arith, h, length-append l (10 ∷ unlines ls)))
     go false e h = rw (e, linesShown) (omega arith)
 

@@ -2,6 +2,10 @@
 // blocks; lines are shown as parts of a block.
 use input::State;
 use libc::STDOUT_FILENO;
+use table::NAMES_SIZE;
+use table::Names;
+use table::TABLE_SIZE;
+use table::Table;
 ghost use Prim.Native.Nat.{_≤_, _<_};
 ghost use lib.ListN.{length};
 ghost use Rattle.input.specs.State.{Within};
@@ -16,8 +20,8 @@ fn write_out(facts: &[u8], n: usize) -> bool
 // The lines of what is left, as many as there is room for, and what they show is written.
 fn show_block(
     s: State,
-    table: &mut [u64; 5632],
-    names: &mut [u8; 9728],
+    table: &mut Table,
+    names: &mut Names,
     block: &[u8],
     facts: &mut [u8],
 ) -> State
@@ -39,8 +43,8 @@ fn show_block(
 // All that is left as one line: the last line, or the first block of a line that is longer.
 fn show_rest(
     s: State,
-    table: &mut [u64; 5632],
-    names: &mut [u8; 9728],
+    table: &mut Table,
+    names: &mut Names,
     block: &[u8],
     facts: &mut [u8],
 ) -> State
@@ -61,8 +65,8 @@ fn show_rest(
 // No line feed is left: a block that is not full is filled up, any other is shown as a line.
 fn refill(
     s: State,
-    table: &mut [u64; 5632],
-    names: &mut [u8; 9728],
+    table: &mut Table,
+    names: &mut Names,
     block: &mut [u8],
     facts: &mut [u8],
 ) -> State
@@ -76,13 +80,7 @@ fn refill(
 }
 
 // One turn: lines are shown and their facts are written, or the block is filled up.
-fn turn(
-    s: State,
-    table: &mut [u64; 5632],
-    names: &mut [u8; 9728],
-    block: &mut [u8],
-    facts: &mut [u8],
-) -> State
+fn turn(s: State, table: &mut Table, names: &mut Names, block: &mut [u8], facts: &mut [u8]) -> State
     requires { ⌜ Within s (length (now block)) × (0 < length (now block)) ⌝ }
     ensures { λ r. ⌜ Within r (length (now (block .exit))) ⌝ }
 {
@@ -100,7 +98,7 @@ fn turn(
 }
 
 // Turns until the input ends; then what is left is the last line, if it has at least one byte.
-fn run(table: &mut [u64; 5632], names: &mut [u8; 9728], block: &mut [u8], facts: &mut [u8])
+fn run(table: &mut Table, names: &mut Names, block: &mut [u8], facts: &mut [u8])
     requires { ⌜ 0 < length (now block) ⌝ }
 {
     let mut s = input::started();
@@ -115,8 +113,8 @@ fn run(table: &mut [u64; 5632], names: &mut [u8; 9728], block: &mut [u8], facts:
 }
 
 fn main() {
-    let mut table = [0u64; 5632];
-    let mut names = [0u8; 9728];
+    let mut table = [0u64; TABLE_SIZE];
+    let mut names = [0u8; NAMES_SIZE];
     let mut block = [0u8; 262144];
     let mut facts = [0u8; 65536];
     run(&mut table, &mut names, &mut block, &mut facts);

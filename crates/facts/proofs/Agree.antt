@@ -28,6 +28,7 @@ use Rattle.rules.specs.declared.Refusal.{Refusal}
 use Rattle.rules.specs.declared.Settings.{Settings}
 use Rattle.rules.specs.declared.Side.{Side}
 use Rattle.rules.specs.declared.Security.{Security}
+use Rattle.table.specs.Sizes.{tableSize, namesSize}
 use Rattle.prices.proofs.Texts.{units-small}
 use Rattle.table.specs.Rows.{row, nameOf, dayOf}
 use Rattle.table.proofs.Held.{held-security, held-name}
@@ -244,7 +245,7 @@ module _ (st : Settings) (table names : List ℕ) where
     ended f (Cancel t) h = h
     ended f (Correct c) h = h
 
-    module _ (rows : length table ≡ 5632) (places : length names ≡ 9728) where
+    module _ (rows : length table ≡ tableSize) (places : length names ≡ namesSize) where
       asked-fact : planFact st names (asked st table names line room) ≡ shownBy day (record { line = line; room = room })
       unfolding shownBy
       asked-fact =

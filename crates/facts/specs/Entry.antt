@@ -12,6 +12,7 @@ use Rattle.rules.specs.Announcement.{modeText, levelText, stepText}
 use Rattle.rules.specs.Shown as shown
 use Rattle.rules.specs.Shown.{Fact, announced, traded, cancelled, erred, corrected, inFull, bare, conditionsOf, partOf, announcedIf}
 use Rattle.rules.specs.declared.Settings.{Settings}
+use Rattle.rules.specs.Sizes.{securityPlaces}
 use Rattle.factside.specs.Sound.{SoundSide}
 use Rattle.table.specs.Rows.{nameOf}
 use Rattle.planner.specs.declared.TradePlan.{TradePlan}
@@ -81,16 +82,16 @@ planFact st names (Correct c) =
 -- ---- what an accepted line owes: prices within their values, volume and days within their columns, a place in the tables, a unit
 
 pub record SoundTrade (t : TradePlan) : Type 0 where
-  pub place-is : t .place < 512
+  pub place-is : t .place < securityPlaces
   pub unit-is : 1 ≤ t .unit
   pub side-is : SoundSide (t .side)
 
 pub record SoundCancel (t : CancelPlan) : Type 0 where
-  pub place-is : t .place < 512
+  pub place-is : t .place < securityPlaces
   pub side-is : SoundSide (t .side)
 
 pub record SoundCorrection (c : CorrectionPlan) : Type 0 where
-  pub place-is : c .place < 512
+  pub place-is : c .place < securityPlaces
   pub original-is : SoundSide (c .original)
   pub correcting-is : SoundSide (c .correcting)
 

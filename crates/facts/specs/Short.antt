@@ -2,6 +2,7 @@
 use Prim.Native.Nat.{ℕ, _^_, _≤_, _<_}
 use mathlib.Core.List.{List}
 use mathlib.Core.Option.{Option, none, some}
+use Rattle.rules.specs.Sizes.{securityPlaces}
 use Rattle.rules.specs.Shown.{Conditions, Part, inFull, bare, Fact, announced, traded, cancelled, erred, corrected}
 
 pub record ShortConditions (c : Conditions) : Type 0 where
@@ -18,10 +19,10 @@ ShortVolume (some n) = n < 10 ^ 9
 
 unfoldable pub ShortFact : Fact → Type 0
 ShortFact (announced text) = Unit {0}
-ShortFact (traded i temporary price c volume) = (i ≤ 512) × ((price < 10 ^ 14) × (ShortConditions c × ShortVolume volume))
-ShortFact (cancelled i x) = (i ≤ 512) × ShortPart x
-ShortFact (erred i x) = (i ≤ 512) × ShortPart x
-ShortFact (corrected i x y) = (i ≤ 512) × (ShortPart x × ShortPart y)
+ShortFact (traded i temporary price c volume) = (i ≤ securityPlaces) × ((price < 10 ^ 14) × (ShortConditions c × ShortVolume volume))
+ShortFact (cancelled i x) = (i ≤ securityPlaces) × ShortPart x
+ShortFact (erred i x) = (i ≤ securityPlaces) × ShortPart x
+ShortFact (corrected i x y) = (i ≤ securityPlaces) × (ShortPart x × ShortPart y)
 
 unfoldable pub ShortShown : Option Fact → Type 0
 ShortShown none = Unit {0}

@@ -6,11 +6,15 @@ use planner::Plan;
 use planner::TradePlan;
 use rules::Letters;
 use rules::Mode;
+use rules::NAME_WIDTH;
 use rules::Settings;
 use rules::Side;
+use table::Names;
+use table::Table;
 ghost use mathlib.Core.Path.{_≡_};
 ghost use mathlib.Core.Bool.{_&&_};
 ghost use Prim.Native.Nat.{ℕ, _≤_, _<_};
+ghost use Rattle.rules.specs.Sizes.{securityPlaces};
 ghost use Rattle.rules.specs.Names.{hasTemporary};
 ghost use Rattle.rules.specs.Announcement.{stepText};
 ghost use Rattle.rules.specs.Day.{tapeOf};
@@ -120,22 +124,22 @@ fn volume_of(st: Settings, t: TradePlan) -> Volume
 }
 
 // A blank temporary suffix is never shown.
-fn shows_suffix(names: &[u8; 9728], t: TradePlan) -> bool
-    requires { ⌜ t .place < 512 ⌝ }
+fn shows_suffix(names: &Names, t: TradePlan) -> bool
+    requires { ⌜ t .place < securityPlaces ⌝ }
     ensures { λ r. ⌜ r ≡ (t .temporary && hasTemporary (nameOf (now (names .entry)) (t .place))) ⌝ }
 {
     if !t.temporary {
         return false;
     }
     let all = &names[..];
-    let from = t.place * 19;
-    let to = from + 19;
+    let from = t.place * NAME_WIDTH;
+    let to = from + NAME_WIDTH;
     symbol::has_temporary(&all[from..to])
 }
 
 // ---- the entry of a plan
 
-fn trade_entry(st: Settings, names: &[u8; 9728], t: TradePlan) -> Entry
+fn trade_entry(st: Settings, names: &Names, t: TradePlan) -> Entry
     requires { ⌜ SoundTrade t ⌝ }
     ensures { λ r. ⌜ factIn (printOf st (now (names .entry)) (Print t)) r ≡ planFact st (now (names .entry)) (Print t) ⌝ }
 {
@@ -153,7 +157,7 @@ fn trade_entry(st: Settings, names: &[u8; 9728], t: TradePlan) -> Entry
     })
 }
 
-fn cancel_entry(st: Settings, names: &[u8; 9728], t: CancelPlan) -> Entry
+fn cancel_entry(st: Settings, names: &Names, t: CancelPlan) -> Entry
     requires { ⌜ SoundCancel t ⌝ }
     ensures { λ r. ⌜ factIn (printOf st (now (names .entry)) (Cancel t)) r ≡ planFact st (now (names .entry)) (Cancel t) ⌝ }
 {
@@ -168,7 +172,7 @@ fn cancel_entry(st: Settings, names: &[u8; 9728], t: CancelPlan) -> Entry
     Entry::Cancelled(security, part)
 }
 
-fn correction_entry(st: Settings, names: &[u8; 9728], c: CorrectionPlan) -> Entry
+fn correction_entry(st: Settings, names: &Names, c: CorrectionPlan) -> Entry
     requires { ⌜ SoundCorrection c ⌝ }
     ensures { λ r. ⌜ factIn (printOf st (now (names .entry)) (Correct c)) r ≡ planFact st (now (names .entry)) (Correct c) ⌝ }
 {
@@ -197,7 +201,7 @@ fn step_entry(m: Mode) -> Entry
     }
 }
 
-fn plan_entry(st: Settings, names: &[u8; 9728], p: Plan) -> Entry
+fn plan_entry(st: Settings, names: &Names, p: Plan) -> Entry
     requires { ⌜ SoundFact p ⌝ }
     ensures { λ r. ⌜ factIn (printOf st (now (names .entry)) p) r ≡ planFact st (now (names .entry)) p ⌝ }
 {
@@ -218,13 +222,7 @@ fn plan_entry(st: Settings, names: &[u8; 9728], p: Plan) -> Entry
 // ---- the entry point
 
 // The entry of a call that is lent a tape of `room` bytes, by the state that it finds.
-pub fn entry_of(
-    st: Settings,
-    table: &[u64; 5632],
-    names: &[u8; 9728],
-    line: &[u8],
-    room: usize,
-) -> Entry
+pub fn entry_of(st: Settings, table: &Table, names: &Names, line: &[u8], room: usize) -> Entry
     ensures { λ r. ⌜ factIn (tapeOf (dayOf st (now (table .entry)) (now (names .entry))) (record { line = now (line .entry); room = room })) r ≡ shownBy (dayOf st (now (table .entry)) (now (names .entry))) (record { line = now (line .entry); room = room }) ⌝ }
 {
     // as slices the tables tell their sizes

@@ -3,6 +3,7 @@ use Prim.Native.Nat.{ℕ}
 use mathlib.Core.Path.{_≡_}
 use mathlib.Core.List.{List, [], _∷_, _++_}
 use lib.ListN.{length, take}
+use Rattle.table.specs.Sizes.{tableSize, namesSize}
 use Rattle.rules.specs.Day.{opened, fresh}
 use Rattle.rules.specs.Shown.{shown}
 use Rattle.calls.specs.Run.{State, Lent}
@@ -29,8 +30,8 @@ pub data Calls : Memory → List Lent → Memory → List ℕ → Type 0 where
 -- what `lekphimon_fresh` leaves, beside tables of their sizes and any contents
 pub record Fresh (s : Memory) : Type 0 where
   pub settings-are : s .settings ≡ numbersOf (opened 0)
-  pub rows : length (s .table) ≡ 5632
-  pub places : length (s .names) ≡ 9728
+  pub rows : length (s .table) ≡ tableSize
+  pub places : length (s .names) ≡ namesSize
 
 -- demand 3
 abbrev pub WholeDayCalls : Type 0

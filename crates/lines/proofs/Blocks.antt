@@ -11,6 +11,7 @@ use borrow.Author.Tests.{leb-true, not-true, not-false, lt-ltb, le-ltb}
 use Rattle.text.specs.Pick.{pick}
 use Rattle.text.proofs.Writing.{written-nothing, length-put}
 use Rattle.rules.specs.declared.Settings.{Settings}
+use Rattle.rules.specs.Sizes.{longestPrint}
 use Rattle.blocks.specs.Lines.{lineEnd, Cut}
 use Rattle.lines.specs.Feed.{Progress, started, lineTaken, roomLeft, linesTaken, blockTaken, linesFrom, Stands, Steps, Here, Runs}
 use Rattle.lines.specs.declared.Fed.{Fed}
@@ -40,7 +41,7 @@ both false b h = absurd (let y : _≡_ {A = ℕ} 0 1 = cc in omega arith)
 module _ (tape refusals n k number : ℕ) (h : roomLeft tape refusals n k number ≡ true) where
   told-and-number : (leb 14 (refusals - k) ≡ true) × (leb number 9999999999 ≡ true)
   unfolding roomLeft
-  told-and-number = both (leb 14 (refusals - k)) (leb number 9999999999) (both (leb 400 (tape - n)) (leb 14 (refusals - k) && leb number 9999999999) h .1)
+  told-and-number = both (leb 14 (refusals - k)) (leb number 9999999999) (both (leb longestPrint (tape - n)) (leb 14 (refusals - k) && leb number 9999999999) h .1)
 
   room-told : 14 ≤ refusals - k
   room-told = leb-true 14 (refusals - k) (told-and-number .0)

@@ -11,6 +11,7 @@ use Rattle.text.specs.Pick.{pick}
 use Rattle.rules.specs.Line.{isShaped}
 use Rattle.rules.specs.declared.Refusal.the-variants.{Shape, Room}
 use Rattle.rules.specs.declared.Settings.{Settings}
+use Rattle.rules.specs.Sizes.{width}
 use Rattle.planner.specs.declared.Plan.{Plan}
 use Rattle.planner.specs.declared.Plan.the-variants.{Stop}
 use Rattle.planner.specs.Plan.{planOf}
@@ -19,15 +20,15 @@ use Rattle.engine.specs.Taken.{asked, outcomeOf}
 use Rattle.planstate.specs.After.{settingsAfter, tableAfter, namesAfter}
 use Rattle.lines.specs.Feed.{Progress, carried, lineTaken}
 
-unshaped : (line : List ℕ) → (length line ≡ 100 → ⊥) → isShaped line ≡ false
+unshaped : (line : List ℕ) → (length line ≡ width → ⊥) → isShaped line ≡ false
 unfolding isShaped
-unshaped line h = rw (ne-eqb (length line) 100 h)
+unshaped line h = rw (ne-eqb (length line) width h)
 
-plan-shape : (st : Settings) (table names line : List ℕ) → (length line ≡ 100 → ⊥) → planOf st table names line ≡ Stop Shape
+plan-shape : (st : Settings) (table names line : List ℕ) → (length line ≡ width → ⊥) → planOf st table names line ≡ Stop Shape
 unfolding planOf pick
 plan-shape st table names line h = rw (unshaped line h)
 
-asked-shape : (st : Settings) (table names line : List ℕ) (room : ℕ) → (length line ≡ 100 → ⊥) → asked st table names line room ≡ Stop Shape
+asked-shape : (st : Settings) (table names line : List ℕ) (room : ℕ) → (length line ≡ width → ⊥) → asked st table names line room ≡ Stop Shape
 unfolding asked fittedOf textOf pick
 asked-shape st table names line room h = rw (plan-shape st table names line h, le-ltb room 0 (omega arith))
 
@@ -36,6 +37,6 @@ abbrev pub readTo : ℕ → Progress → Progress
 readTo n p = record { settings = p .settings; table = p .table; names = p .names; number = p .number; at = n; tape = p .tape; refusals = p .refusals }
 
 -- such lines differ in the bytes that are read, and in nothing else
-pub long-line : (tape : ℕ) (a b : List ℕ) (p : Progress) → (length a ≡ 100 → ⊥) → (length b ≡ 100 → ⊥) → lineTaken tape a p ≡ readTo (p .at + length a + 1) (lineTaken tape b p)
+pub long-line : (tape : ℕ) (a b : List ℕ) (p : Progress) → (length a ≡ width → ⊥) → (length b ≡ width → ⊥) → lineTaken tape a p ≡ readTo (p .at + length a + 1) (lineTaken tape b p)
 unfolding lineTaken carried namesAfter
 long-line tape a b p h k = rw (asked-shape (p .settings) (p .table) (p .names) a _ h, asked-shape (p .settings) (p .table) (p .names) b _ k)

@@ -15,6 +15,7 @@ use Rattle.text.proofs.Writing.{written-nothing}
 use Rattle.rules.specs.Columns.{between}
 use Rattle.rules.specs.Line.{isPrintable, isShaped}
 use Rattle.rules.specs.declared.Settings.{Settings}
+use Rattle.rules.specs.Sizes.{width}
 use Rattle.engine.specs.declared.Outcome.the-variants.{Accepted}
 use Rattle.traded.specs.declared.TradeAnswer.{TradeAnswer}
 use Rattle.engine.specs.Taken.{Taken, TradeTaken}
@@ -48,21 +49,21 @@ unfolding endsLine endsAt pick
 ends-in false block at e = omega (arith, ltb-true at (length block) (and-left (ltb at (length block)) _ e))
 ends-in true line at e = omega (arith, eqb-true at (length line) e)
 
--- 100 printable bytes that a line's end follows are the next line
-line-ahead : (last : Bool) (block : List ℕ) (at : ℕ) → isShaped (take (at + 100 - at) (drop at block)) ≡ true → endsLine last block (at + 100) ≡ true
-    → linesFrom last block at ≡ take (at + 100 - at) (drop at block) ∷ linesFrom last block (at + 100 + 1)
+-- width printable bytes that a line's end follows are the next line
+line-ahead : (last : Bool) (block : List ℕ) (at : ℕ) → isShaped (take (at + width - at) (drop at block)) ≡ true → endsLine last block (at + width) ≡ true
+    → linesFrom last block at ≡ take (at + width - at) (drop at block) ∷ linesFrom last block (at + width + 1)
 unfolding isShaped isPrintable between endsLine endsAt pick
 line-ahead false block at s e =
-    let n : at + 100 - at ≡ 100 = omega arith in
-    let printable : all isPrintable (take (at + 100 - at) (drop at block)) ≡ true = and-right (eqb (length (take (at + 100 - at) (drop at block))) 100) _ s in
-    line-then block at (at + 100) (line-at isPrintable refl block at 100 (rw n at printable) e) (ltb-true (at + 100) (length block) (and-left (ltb (at + 100) (length block)) _ e))
+    let n : at + width - at ≡ width = omega arith in
+    let printable : all isPrintable (take (at + width - at) (drop at block)) ≡ true = and-right (eqb (length (take (at + width - at) (drop at block))) width) _ s in
+    line-then block at (at + width) (line-at isPrintable refl block at width (rw n at printable) e) (ltb-true (at + width) (length block) (and-left (ltb (at + width) (length block)) _ e))
 line-ahead true line at s e =
-    let n : at + 100 ≡ length line = eqb-true (at + 100) (length line) e in
+    let n : at + width ≡ length line = eqb-true (at + width) (length line) e in
     rw n (last-then line at (omega arith))
 
 module _ (last : Bool) (block names refusals table₀ tape₀ : List ℕ) (st : Settings) (f : Fed) (table tape : List ℕ) (r : Fed) (inv : Run last block names refusals table₀ tape₀ st f table tape r) (table′ ys : List ℕ) (p : TradeAnswer) where
   abbrev line : List ℕ
-  line = take (r .at + 100 - r .at) (drop (r .at) block)
+  line = take (r .at + width - r .at) (drop (r .at) block)
 
   abbrev lent : List ℕ
   lent = take (length tape - r .tape) (drop (r .tape) tape)
@@ -71,7 +72,7 @@ module _ (last : Bool) (block names refusals table₀ tape₀ : List ℕ) (st : 
   tape′ = take (r .tape) tape ++ (ys ++ drop (length tape - r .tape) (drop (r .tape) tape))
 
   abbrev next : Fed
-  next = record { settings = r .settings; number = r .number + 1; at = r .at + 100 + 1; tape = r .tape + p .length; refusals = r .refusals }
+  next = record { settings = r .settings; number = r .number + 1; at = r .at + width + 1; tape = r .tape + p .length; refusals = r .refusals }
 
   module _ (t : TradeTaken st table names line lent table′ ys p) where
     -- no trade: nothing was done
@@ -93,9 +94,9 @@ module _ (last : Bool) (block names refusals table₀ tape₀ : List ℕ) (st : 
       print-adds l = record { fits = omega (arith, fits, inv .runs .tape-in, inv .size) }
 
       -- as the code has it: `b` is the answer whether a line ends there
-      module _ (b : Bool) (tells : b ≡ endsLine last block (r .at + 100)) (ends : not b ≡ false) (room : Bool) (holds : room ≡ roomLeft (length tape) (length refusals) (r .tape) (r .refusals) (r .number)) (is : room ≡ true) where
-        in-block : r .at + 100 ≤ length block
-        in-block = ends-in last block (r .at + 100) (sym tells ∙ not-false b ends)
+      module _ (b : Bool) (tells : b ≡ endsLine last block (r .at + width)) (ends : not b ≡ false) (room : Bool) (holds : room ≡ roomLeft (length tape) (length refusals) (r .tape) (r .refusals) (r .number)) (is : room ≡ true) where
+        in-block : r .at + width ≤ length block
+        in-block = ends-in last block (r .at + width) (sym tells ∙ not-false b ends)
 
         steps : Steps line table names tape refusals r table′ names tape′ refusals next
         unfolding printed told
@@ -103,7 +104,7 @@ module _ (last : Bool) (block names refusals table₀ tape₀ : List ℕ) (st : 
             let k : List ℕ = take (length refusals - r .refusals) (drop (r .refusals) refusals) in
             let here : Taken (r .settings) table names line lent table′ names ys (record { outcome = Accepted (p .length); settings = r .settings }) = rw (inv .settings-is) (t .taken-is taken) in
             let zero : r .refusals + 0 ≡ r .refusals = omega arith in
-            rw (put-back refusals (r .refusals) (length refusals - r .refusals), zero) at (line-fed r block table names tape refusals table′ names ys k (record { outcome = Accepted (p .length); settings = r .settings }) (r .at + 100) (p .length) 0 here refl (written-nothing k) (omega arith) in-block)
+            rw (put-back refusals (r .refusals) (length refusals - r .refusals), zero) at (line-fed r block table names tape refusals table′ names ys k (record { outcome = Accepted (p .length); settings = r .settings }) (r .at + width) (p .length) 0 here refl (written-nothing k) (omega arith) in-block)
 
         run-step : (t₀ r₀ : List ℕ) (goal : Progress) → Here last block t₀ r₀ goal table names tape refusals r → Here last block t₀ r₀ goal table′ names tape′ refusals next
         run-step t₀ r₀ goal h = here-next h _ _ (line-ahead last block (r .at) (t .shaped taken) (sym tells ∙ not-false b ends)) (sym holds ∙ is) table′ names tape′ refusals next steps refl
@@ -118,14 +119,14 @@ module _ (last : Bool) (block names refusals table₀ tape₀ : List ℕ) (st : 
               size = size ∙ inv .size;
             }
 
-module _ (last : Bool) (block : List ℕ) (at : ℕ) (b : Bool) (tells : b ≡ endsLine last block (at + 100)) (ends : not b ≡ false) where
-  pub line-in : at + 100 ≤ length block
-  line-in = ends-in last block (at + 100) (sym tells ∙ not-false b ends)
+module _ (last : Bool) (block : List ℕ) (at : ℕ) (b : Bool) (tells : b ≡ endsLine last block (at + width)) (ends : not b ≡ false) where
+  pub line-in : at + width ≤ length block
+  line-in = ends-in last block (at + width) (sym tells ∙ not-false b ends)
 
-  pub next-adds : length block * 1 < 2 ^ 63 → Fits w64 (at + 100 + 1)
+  pub next-adds : length block * 1 < 2 ^ 63 → Fits w64 (at + width + 1)
   next-adds l = record { fits = omega (arith, line-in) }
 
-  pub run-less : length block - (at + 100 + 1) < length block - at
+  pub run-less : length block - (at + width + 1) < length block - at
   run-less = omega (arith, line-in)
 
 -- the number of the next line

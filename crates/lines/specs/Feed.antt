@@ -9,6 +9,7 @@ use Rattle.text.specs.Pick.{pick}
 use Rattle.text.specs.Put.{Written}
 use Rattle.rules.specs.Refusal.{numberOf}
 use Rattle.rules.specs.declared.Settings.{Settings}
+use Rattle.rules.specs.Sizes.{longestPrint}
 use Rattle.planner.specs.declared.Plan.{Plan}
 use Rattle.engine.specs.declared.Outcome.{Outcome}
 use Rattle.engine.specs.declared.Outcome.the-variants.{Accepted, Refused}
@@ -64,9 +65,9 @@ lineTaken room line f = carried line f (asked (f .settings) (f .table) (f .names
 
 -- ---- many
 
--- 400 bytes are left of the tape and 14 of the refusals, and reading has not ended: `n` bytes are on a tape of `tape`, `k` in refusals of `refusals`
+-- `longestPrint` bytes are left of the tape and 14 of the refusals, and reading has not ended: `n` bytes are on a tape of `tape`, `k` in refusals of `refusals`
 unfoldable pub roomLeft : ℕ → ℕ → ℕ → ℕ → ℕ → Bool
-roomLeft tape refusals n k number = leb 400 (tape - n) && (leb 14 (refusals - k) && leb number 9999999999)
+roomLeft tape refusals n k number = leb longestPrint (tape - n) && (leb 14 (refusals - k) && leb number 9999999999)
 
 -- lines are taken in order, as long as there is room
 unfoldable pub linesTaken : ℕ → ℕ → List (List ℕ) → Progress → Progress

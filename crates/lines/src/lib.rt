@@ -1,8 +1,12 @@
 // Lines: a block of input is split at its line feeds, each line is handed to the engine as a part of the block, prints are
 // gathered in one lent block and refusals in another (document 01, "Shown facts and the whole day").
 use engine::Outcome;
+use rules::LONGEST_PRINT;
 use rules::Refusal;
 use rules::Settings;
+use rules::WIDTH;
+use table::Names;
+use table::Table;
 ghost use mathlib.Core.Path.{_≡_};
 ghost use mathlib.Core.List.{[], _∷_};
 ghost use Prim.Native.Nat.{_+_, _-_, _≤_};
@@ -79,12 +83,12 @@ fn printed_length(o: Outcome) -> usize
     }
 }
 
-// Room for any print (crate daytape: none is longer than 400 bytes) and a refusal, and a line number that is not past the last.
+// Room for any print (crate daytape: none is longer than LONGEST_PRINT bytes) and a refusal, and a line number that is not past the last.
 fn room_left(f: Fed, tape: usize, refusals: usize) -> bool
     requires { ⌜ (f .tape ≤ tape) × (f .refusals ≤ refusals) ⌝ }
     ensures { λ r. ⌜ r ≡ roomLeft tape refusals (f .tape) (f .refusals) (f .number) ⌝ }
 {
-    if tape - f.tape < 400 {
+    if tape - f.tape < LONGEST_PRINT {
         return false;
     }
     if refusals - f.refusals < 14 {
@@ -96,8 +100,8 @@ fn room_left(f: Fed, tape: usize, refusals: usize) -> bool
 // The line from where the reading stands up to `end`, one that `feed_trades` left.
 fn feed_line(
     f: Fed,
-    table: &mut [u64; 5632],
-    names: &mut [u8; 9728],
+    table: &mut Table,
+    names: &mut Names,
     block: &[u8],
     end: usize,
     tape: &mut [u8],
@@ -136,11 +140,11 @@ fn ends_line(block: &[u8], at: usize, last: bool) -> bool
 }
 
 // Trades from where the reading stands on, as many as follow one another; where `last` is true the block is one line that no
-// line feed ends. The line feed behind 100 bytes is not searched for: a trade has none in it. All trades are taken here.
+// line feed ends. The line feed behind a line's width is not searched for: a trade has none in it. All trades are taken here.
 fn feed_trades(
     f: Fed,
-    table: &mut [u64; 5632],
-    names: &[u8; 9728],
+    table: &mut Table,
+    names: &Names,
     block: &[u8],
     last: bool,
     tape: &mut [u8],
@@ -153,7 +157,7 @@ fn feed_trades(
     let mut r = f;
     while room_left(r, tape.len(), refusals.len()) {
         let at = r.at;
-        let end = at + 100;
+        let end = at + WIDTH;
         if !ends_line(block, end, last) {
             return r;
         }
@@ -171,13 +175,13 @@ fn feed_trades(
 
 // ---- a block
 
-// Each line of the block that a line feed ends, as long as 400 bytes are left of the lent tape, 14 of the lent refusals,
+// Each line of the block that a line feed ends, as long as LONGEST_PRINT bytes are left of the lent tape, 14 of the lent refusals,
 // and the line's number is at most 9,999,999,999: trades as long as they follow one another, then the line that is none.
 pub fn feed(
     settings: Settings,
     number: u64,
-    table: &mut [u64; 5632],
-    names: &mut [u8; 9728],
+    table: &mut Table,
+    names: &mut Names,
     block: &[u8],
     tape: &mut [u8],
     refusals: &mut [u8],
@@ -210,8 +214,8 @@ pub fn feed(
 pub fn feed_last(
     settings: Settings,
     number: u64,
-    table: &mut [u64; 5632],
-    names: &mut [u8; 9728],
+    table: &mut Table,
+    names: &mut Names,
     line: &[u8],
     tape: &mut [u8],
     refusals: &mut [u8],

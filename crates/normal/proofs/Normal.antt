@@ -23,6 +23,7 @@ use Rattle.rules.specs.declared.Line.the-variants.{Listed}
 use Rattle.rules.specs.declared.Refusal.the-variants.{InUse, Name, Room}
 use Rattle.rules.proofs.Days.{none-there, passed}
 use Rattle.rules.proofs.Fields.{security-number}
+use Rattle.rules.specs.Sizes.{width}
 use Rattle.named.proofs.Root.{false-true}
 use Rattle.compose.specs.Shown.{Enterable}
 use Rattle.compose.specs.Printable.{Printable}
@@ -33,13 +34,13 @@ use Rattle.normal.proofs.Views.{accepted-is, printable-as, day-printabl
 
 -- ---- the security that the S line enters
 
-pub long : (line : List ℕ) → isShaped line ≡ true → length line ≡ 100
+pub long : (line : List ℕ) → isShaped line ≡ true → length line ≡ width
 unfolding isShaped
-long line h = eqb-true (length line) 100 (and-left (eqb (length line) 100) _ h)
+long line h = eqb-true (length line) width (and-left (eqb (length line) width) _ h)
 
 pub printable : (line : List ℕ) → isShaped line ≡ true → all isPrintable line ≡ true
 unfolding isShaped
-printable line h = and-right (eqb (length line) 100) _ h
+printable line h = and-right (eqb (length line) width) _ h
 
 -- a listing that is accepted
 pub record Lists (day : Day) (line : List ℕ) : Type 0 where

@@ -1,5 +1,6 @@
 // The numbers of a day line's fields: read, and asked whether they are within their values (document 01, Day lines).
 use rules::Number;
+use rules::PLACES;
 ghost use mathlib.Core.Path.{_≡_};
 ghost use Prim.Native.Nat.{_≤_};
 ghost use lib.ListN.{length, drop};
@@ -161,7 +162,7 @@ pub fn is_previous_ranged(n: Number, d: Number) -> bool
 pub fn is_security_number(n: u64) -> bool
     ensures { λ r. ⌜ r ≡ isSecurityNumber n ⌝ }
 {
-    is_between(1, 512, n)
+    is_between(1, PLACES as u64, n)
 }
 
 pub fn is_unit(n: u64) -> bool

@@ -16,6 +16,7 @@ use Rattle.rules.specs.declared.Parsed.{Parsed}
 use Rattle.rules.specs.declared.Settings.{Settings}
 use Rattle.rules.specs.declared.Refusal.the-variants.{Form, Value}
 use Rattle.rules.proofs.Fields.{few-decimals, security-number}
+use Rattle.rules.specs.Sizes.{width}
 use Rattle.prices.specs.Sound.{Sound}
 use Rattle.planner.specs.declared.Plan.{Plan}
 use Rattle.planner.specs.declared.Plan.the-variants.{Stop}
@@ -104,9 +105,9 @@ module _ (line : List ℕ) (p : Parsed) (read : p ≡ ofKind (column 1 line) lin
   unfolding readPlan
   read-through st table names r h k e = pick-no _ _ _ _ (ap not formed-is ∙ h) (pick-no _ _ _ _ (ap not ranged-is ∙ k) (rw line-is e))
 
-pub shaped : (line : List ℕ) (r : Bool) → r ≡ isShaped line → not r ≡ false → length line ≡ 100
+pub shaped : (line : List ℕ) (r : Bool) → r ≡ isShaped line → not r ≡ false → length line ≡ width
 unfolding isShaped
-shaped line r e h = eqb-true (length line) 100 (and-left (eqb (length line) 100) _ (sym e ∙ not-false r h))
+shaped line r e h = eqb-true (length line) width (and-left (eqb (length line) width) _ (sym e ∙ not-false r h))
 
 pub shaped-some : (line : List ℕ) (r : Bool) → r ≡ isShaped line → not r ≡ false → 0 < length line
 shaped-some line r e h = omega (arith, shaped line r e h)

@@ -21,6 +21,7 @@ use Rattle.rules.specs.declared.Refusal.{Refusal}
 use Rattle.rules.specs.declared.Refusal.the-variants.{Shape, Kind, NoDate, Form, Value, NotEntered, InUse, Name, SameName, Conditions, Unmatched, DateOrder, Room, NoPrint}
 use Rattle.rules.specs.declared.Settings.{Settings}
 use Rattle.rules.specs.declared.Security.{Security}
+use Rattle.rules.specs.Sizes.{securityPlaces}
 use Rattle.prices.specs.Sound.{Sound}
 use Rattle.table.specs.Rows.{row, nameOf, rowsFrom, namesFrom}
 use Rattle.planner.specs.declared.TradePlan.{TradePlan}
@@ -38,7 +39,7 @@ unfoldable pub listingPlan : List ℕ → List ℕ → List ℕ → Listing → 
 listingPlan table names name l =
     pick (isEntered (row table (l .number - 1))) (Stop InUse)
     (pick (not (l .lawful)) (Stop Name)
-    (pick (takenName name (rowsFrom 512 0 table) (namesFrom 512 0 names)) (Stop SameName)
+    (pick (takenName name (rowsFrom securityPlaces 0 table) (namesFrom securityPlaces 0 names)) (Stop SameName)
     (Enter (l .number - 1) (entered l))))
 
 -- T: how it prints, and the security after it
@@ -132,13 +133,13 @@ planOf st table names line =
 
 pub record SoundTrade (t : Trade) : Type 0 where
   pub low : 1 ≤ t .security
-  pub high : t .security ≤ 512
+  pub high : t .security ≤ securityPlaces
   pub price : Sound (t .side .price)
   pub previous : t .side .previous .d ≤ 8
 
 pub record SoundCorrection (c : Correction) : Type 0 where
   pub low : 1 ≤ c .security
-  pub high : c .security ≤ 512
+  pub high : c .security ≤ securityPlaces
   pub original : Sound (c .original .price)
   pub original-previous : c .original .previous .d ≤ 8
   pub correcting : Sound (c .correcting .price)
@@ -146,7 +147,7 @@ pub record SoundCorrection (c : Correction) : Type 0 where
 
 pub record SoundListing (l : Listing) : Type 0 where
   pub low : 1 ≤ l .number
-  pub high : l .number ≤ 512
+  pub high : l .number ≤ securityPlaces
 
 unfoldable pub SoundLine : Line → Type 0
 SoundLine (Dated n) = Unit {0}

@@ -4,16 +4,22 @@ use rules::Correction;
 use rules::Line;
 use rules::Listing;
 use rules::Mode;
+use rules::NAME_WIDTH;
+use rules::PLACES;
 use rules::Refusal;
 use rules::Security;
 use rules::Settings;
 use rules::Side;
 use rules::Trade;
+use rules::WIDTH;
+use table::Names;
+use table::Table;
 ghost use mathlib.Core.Path.{_≡_};
 ghost use Prim.Native.Nat.{_-_, _≤_, _<_};
 ghost use mathlib.Core.Bool.{_&&_, not};
 ghost use lib.Dec.{eqb};
 ghost use lib.ListN.{length};
+ghost use Rattle.rules.specs.Sizes.{width, nameWidth, securityPlaces};
 ghost use Rattle.rules.specs.Line.{isShaped, isKind};
 ghost use Rattle.rules.specs.Names.{sameName};
 ghost use Rattle.rules.specs.Conditions.{onNetwork};
@@ -76,7 +82,7 @@ pub enum Plan {
 pub fn is_shaped(line: &[u8]) -> bool
     ensures { λ r. ⌜ r ≡ isShaped (now (line .entry)) ⌝ }
 {
-    if line.len() != 100 {
+    if line.len() != WIDTH {
         return false;
     }
     field::is_printable_text(line)
@@ -120,8 +126,8 @@ fn date_plan(st: Settings, n: u64) -> Plan
 }
 
 // The name at place i is that of an entered security, and the same as the given one.
-fn is_taken_at(table: &[u64; 5632], names: &[u8; 9728], i: usize, name: &[u8]) -> bool
-    requires { ⌜ (i < 512) × (length (now name) ≡ 19) ⌝ }
+fn is_taken_at(table: &Table, names: &Names, i: usize, name: &[u8]) -> bool
+    requires { ⌜ (i < securityPlaces) × (length (now name) ≡ nameWidth) ⌝ }
     ensures { λ r. ⌜ r ≡ (isEntered (row (now (table .entry)) i) && sameName (now (name .entry)) (nameOf (now (names .entry)) i)) ⌝ }
 {
     let s = table::load(table, i);
@@ -129,17 +135,17 @@ fn is_taken_at(table: &[u64; 5632], names: &[u8; 9728], i: usize, name: &[u8]) -
         return false;
     }
     let all = &names[..];
-    let from = i * 19;
-    let to = from + 19;
+    let from = i * NAME_WIDTH;
+    let to = from + NAME_WIDTH;
     symbol::same_name(name, &all[from..to])
 }
 
-fn is_name_taken(table: &[u64; 5632], names: &[u8; 9728], name: &[u8]) -> bool
-    requires { ⌜ length (now name) ≡ 19 ⌝ }
-    ensures { λ r. ⌜ r ≡ takenName (now (name .entry)) (rowsFrom 512 0 (now (table .entry))) (namesFrom 512 0 (now (names .entry))) ⌝ }
+fn is_name_taken(table: &Table, names: &Names, name: &[u8]) -> bool
+    requires { ⌜ length (now name) ≡ nameWidth ⌝ }
+    ensures { λ r. ⌜ r ≡ takenName (now (name .entry)) (rowsFrom securityPlaces 0 (now (table .entry))) (namesFrom securityPlaces 0 (now (names .entry))) ⌝ }
 {
     let mut i = 0;
-    while i < 512 {
+    while i < PLACES {
         if is_taken_at(table, names, i, name) {
             return true;
         }
@@ -166,8 +172,8 @@ fn entered_as(l: Listing) -> Security
     }
 }
 
-fn listing_plan(table: &[u64; 5632], names: &[u8; 9728], name: &[u8], l: Listing) -> Plan
-    requires { ⌜ SoundListing l × (length (now name) ≡ 19) ⌝ }
+fn listing_plan(table: &Table, names: &Names, name: &[u8], l: Listing) -> Plan
+    requires { ⌜ SoundListing l × (length (now name) ≡ nameWidth) ⌝ }
     ensures { λ r. ⌜ r ≡ listingPlan (now (table .entry)) (now (names .entry)) (now (name .entry)) l ⌝ }
 {
     let place = (l.number - 1) as usize;
@@ -237,7 +243,7 @@ fn trade_plan(st: Settings, s: Security, t: Trade) -> Plan
     Plan::Print(print_plan(st, s, t))
 }
 
-fn trade_at(st: Settings, table: &[u64; 5632], t: Trade) -> Plan
+fn trade_at(st: Settings, table: &Table, t: Trade) -> Plan
     requires { ⌜ SoundTrade t ⌝ }
     ensures { λ r. ⌜ r ≡ tradePlan st (row (now (table .entry)) (t .security - 1)) t ⌝ }
 {
@@ -278,7 +284,7 @@ fn cancel_plan(error: bool, st: Settings, s: Security, t: Trade) -> Plan
     Plan::Cancel(cancel_of(error, st, s, t))
 }
 
-fn cancel_at(error: bool, st: Settings, table: &[u64; 5632], t: Trade) -> Plan
+fn cancel_at(error: bool, st: Settings, table: &Table, t: Trade) -> Plan
     requires { ⌜ SoundTrade t ⌝ }
     ensures { λ r. ⌜ r ≡ cancelPlan error st (row (now (table .entry)) (t .security - 1)) t ⌝ }
 {
@@ -339,7 +345,7 @@ fn correction_plan(st: Settings, s: Security, c: Correction) -> Plan
     Plan::Correct(correction_of(st, s, c))
 }
 
-fn correction_at(st: Settings, table: &[u64; 5632], c: Correction) -> Plan
+fn correction_at(st: Settings, table: &Table, c: Correction) -> Plan
     requires { ⌜ SoundCorrection c ⌝ }
     ensures { λ r. ⌜ r ≡ correctionPlan st (row (now (table .entry)) (c .security - 1)) c ⌝ }
 {
@@ -348,8 +354,8 @@ fn correction_at(st: Settings, table: &[u64; 5632], c: Correction) -> Plan
     correction_plan(st, s, c)
 }
 
-fn line_plan(st: Settings, table: &[u64; 5632], names: &[u8; 9728], name: &[u8], l: Line) -> Plan
-    requires { ⌜ SoundLine l × (length (now name) ≡ 19) ⌝ }
+fn line_plan(st: Settings, table: &Table, names: &Names, name: &[u8], l: Line) -> Plan
+    requires { ⌜ SoundLine l × (length (now name) ≡ nameWidth) ⌝ }
     ensures { λ r. ⌜ r ≡ linePlan st (now (table .entry)) (now (names .entry)) (now (name .entry)) l ⌝ }
 {
     match l {
@@ -366,8 +372,8 @@ fn line_plan(st: Settings, table: &[u64; 5632], names: &[u8; 9728], name: &[u8],
 }
 
 // A line of a known kind, by its fields: refusals 4 and 5, then its own.
-fn read_plan(st: Settings, table: &[u64; 5632], names: &[u8; 9728], line: &[u8]) -> Plan
-    requires { ⌜ length (now line) ≡ 100 ⌝ }
+fn read_plan(st: Settings, table: &Table, names: &Names, line: &[u8]) -> Plan
+    requires { ⌜ length (now line) ≡ width ⌝ }
     ensures { λ r. ⌜ r ≡ readPlan st (now (table .entry)) (now (names .entry)) (now (line .entry)) ⌝ }
 {
     let parsed = dayline::read_kind(line);
@@ -382,7 +388,7 @@ fn read_plan(st: Settings, table: &[u64; 5632], names: &[u8; 9728], line: &[u8])
 }
 
 // What a line asks for.
-pub fn plan_line(st: Settings, table: &[u64; 5632], names: &[u8; 9728], line: &[u8]) -> Plan
+pub fn plan_line(st: Settings, table: &Table, names: &Names, line: &[u8]) -> Plan
     ensures { λ r. ⌜ r ≡ planOf st (now (table .entry)) (now (names .entry)) (now (line .entry)) ⌝ }
 {
     if !is_shaped(line) {

@@ -13,6 +13,7 @@ use Rattle.rules.specs.declared.Mode.{Mode}
 use Rattle.rules.specs.declared.Refusal.{Refusal}
 use Rattle.rules.specs.declared.Settings.{Settings}
 use Rattle.rules.specs.declared.Security.{Security}
+use Rattle.rules.specs.Sizes.{width}
 use Rattle.table.specs.Rows.{nameOf}
 use Rattle.symbol.proofs.Text.{name-most}
 use Rattle.planner.specs.declared.TradePlan.{TradePlan}
@@ -105,7 +106,7 @@ module _ (line : List ℕ) (p : Plan) (sound : SoundPlan line p) where
   unfolding SoundPlan
   place-enter i s e = (rw e at sound) .0
 
-  pub line-enter : (i : ℕ) (s : Security) → p ≡ Enter i s → length line ≡ 100
+  pub line-enter : (i : ℕ) (s : Security) → p ≡ Enter i s → length line ≡ width
   unfolding SoundPlan
   line-enter i s e = (rw e at sound) .1
 

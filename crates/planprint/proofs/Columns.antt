@@ -16,6 +16,7 @@ use Rattle.rules.specs.declared.Line.the-variants.{Dated, Listed, Moded, Levele
 use Rattle.rules.specs.declared.Parsed.{Parsed}
 use Rattle.rules.specs.Columns.{column, numberIn, isNumber, valueOf}
 use Rattle.rules.specs.Line.{volumeIn, priceIn, formedBy, sideFormed, rangedBy, sideRanged, sideBy, sideOf, firstSide, secondSide, isMarket, isSecurityNumber, tradeFormed, tradeRanged, tradeOf, correctionFormed, correctionRanged, correctionOf, ofKind}
+use Rattle.rules.specs.Sizes.{width}
 use Rattle.planner.proofs.Ranged.{sound-side}
 use Rattle.trade.specs.Columns.{SideColumns}
 
@@ -53,7 +54,7 @@ SidesStand line (Cancelled t) = SideColumns (firstSide line) (t .side)
 SidesStand line (Erred t) = SideColumns (firstSide line) (t .side)
 SidesStand line (Corrected c) = SideColumns (firstSide line) (c .original) × SideColumns (secondSide line) (c .correcting)
 
-module _ (line : List ℕ) (size : length line ≡ 100) where
+module _ (line : List ℕ) (size : length line ≡ width) where
   first-length : length (firstSide line) ≡ 46
   first-length = omega (arith, size, length-take 46 (drop 6 line), length-drop 6 line)
 

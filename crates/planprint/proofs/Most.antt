@@ -1,4 +1,4 @@
--- No print of a sound plan is longer than 400 bytes. Assumes nothing.
+-- No print of a sound plan is longer than `longestPrint` bytes. Assumes nothing.
 use Prim.Native.Nat.{ℕ, _*_, _/_, _^_, _≤_, _<_}
 use native.Mathlib.Nat.{div-le-self}
 use native.Mathlib.Omega.{arith}
@@ -23,6 +23,7 @@ use Rattle.rules.specs.declared.Mode.{Mode}
 use Rattle.rules.specs.declared.Mode.the-variants.{Normal, Dvd, Rpo, Mpv}
 use Rattle.rules.specs.declared.Side.{Side}
 use Rattle.rules.specs.declared.Settings.{Settings}
+use Rattle.rules.specs.Sizes.{longestPrint}
 use Rattle.trade.proofs.Short.{Short, side-short}
 use Rattle.amendment.proofs.Amended.{opening-length}
 use Rattle.planner.proofs.Plan.{the-type}
@@ -44,22 +45,22 @@ module _ (x : Side) (h : Short x) (name : List ℕ) (l : length name ≤ 22) (ne
   side-most : length (sideText name network unit full shows x) ≤ 183
   side-most = omega (arith, side-short x h name network unit full shows)
 
-  pub trade-most : (b : Bool) → length (opt b (sideText name network unit full shows x)) ≤ 400
-  trade-most b = opt-most b _ 400 (omega (arith, side-most))
+  pub trade-most : (b : Bool) → length (opt b (sideText name network unit full shows x)) ≤ longestPrint
+  trade-most b = opt-most b _ longestPrint (omega (arith, side-most))
 
-  pub cancel-most : (opening : List ℕ) → length opening ≡ 6 → length (cancelText opening name network unit full shows x) ≤ 400
+  pub cancel-most : (opening : List ℕ) → length opening ≡ 6 → length (cancelText opening name network unit full shows x) ≤ longestPrint
   unfolding cancelText
   cancel-most opening six = simp length-append (omega (arith, six, side-most, pair-most x))
 
 module _ (x y : Side) (h : Short x) (k : Short y) (name : List ℕ) (l : length name ≤ 22) (network unit : ℕ) (full shows : Bool) where
-  both-most : length (correctionText name network unit full shows x y) ≤ 400
+  both-most : length (correctionText name network unit full shows x y) ≤ longestPrint
   unfolding correctionText
   both-most =
       simp length-append
       (omega (arith, side-most x h name l network unit full shows, side-most y k (opt (repeatsName (y .letters)) name) (opt-most (repeatsName (y .letters)) name 22 l) network unit full shows, pair-most y))
 
-  pub correction-most : (b : Bool) → length (opt b (correctionText name network unit full shows x y)) ≤ 400
-  correction-most b = opt-most b _ 400 both-most
+  pub correction-most : (b : Bool) → length (opt b (correctionText name network unit full shows x y)) ≤ longestPrint
+  correction-most b = opt-most b _ longestPrint both-most
 
 -- ---- announcements of numbers of at most twenty digits
 
@@ -77,7 +78,7 @@ volume-most n h =
     (pick-most _ _ _ 28 (simp length-append (omega (arith, digits-most n 1000 h, group-length n)))
     (simp length-append (omega (arith, digits-most n 1000000 h, group-length (n / 1000), group-length n))))
 
-pub level-most : (n : ℕ) → n < 10 ^ 20 → length (levelText n) ≤ 400
+pub level-most : (n : ℕ) → n < 10 ^ 20 → length (levelText n) ≤ longestPrint
 unfolding levelText
 level-most n h = simp length-append (omega (arith, volume-most n h))
 
@@ -85,18 +86,18 @@ whole-most : (n : ℕ) → n < 10 ^ 20 → length (wholeText n) ≤ 20
 unfolding wholeText
 whole-most n h = pick-most _ [] _ 20 (omega arith) (length-decimal 19 n h)
 
-minimum-most : (n : ℕ) → n < 10 ^ 20 → length (minimumText n) ≤ 400
+minimum-most : (n : ℕ) → n < 10 ^ 20 → length (minimumText n) ≤ longestPrint
 unfolding minimumText minimumDollars
 minimum-most n h = simp length-append (omega (arith, whole-most (5 * n / 100) (omega arith), length-places 2 (5 * n)))
 
-pub mode-most : (m : Mode) (n : ℕ) → n < 10 ^ 20 → length (modeText m n) ≤ 400
+pub mode-most : (m : Mode) (n : ℕ) → n < 10 ^ 20 → length (modeText m n) ≤ longestPrint
 unfolding modeText
 mode-most Normal n h = omega arith
 mode-most Dvd n h = omega arith
 mode-most Rpo n h = omega arith
 mode-most Mpv n h = minimum-most n h
 
-pub step-most : (m : Mode) (n : ℕ) → n < 10 ^ 20 → length (stepText m n) ≤ 400
+pub step-most : (m : Mode) (n : ℕ) → n < 10 ^ 20 → length (stepText m n) ≤ longestPrint
 unfolding stepText
 step-most Normal n h = omega arith
 step-most Dvd n h = omega arith
@@ -106,7 +107,7 @@ step-most Mpv n h = minimum-most n h
 -- ---- a sound plan whose numbers the machine holds
 
 module _ (st : Settings) (name line : List ℕ) (vs : List Val) (set : st .minimum < 10 ^ 20) (l : length name ≤ 22) where
-  text-most : (p : Plan) → Is (row the-type) p vs → SoundPlan line p → length (textOf st name p) ≤ 400
+  text-most : (p : Plan) → Is (row the-type) p vs → SoundPlan line p → length (textOf st name p) ≤ longestPrint
   unfolding textOf SoundPlan printText cancelled corrected
   text-most (Stop r) g h = omega arith
   text-most (Open n) g h = omega arith
@@ -125,5 +126,5 @@ module _ (st : Settings) (name line : List ℕ) (vs : List Val) (set : st .minim
       let y : Short (c .correcting) = record { volume-is = omega (arith, g .1); price-is = omega (arith, g .1); decimals-are = h .correcting-stands .sound .decimals; days-are = omega (arith, g .1); previous-is = omega (arith, g .1); previous-decimals = h .correcting-stands .previous-is } in
       correction-most (c .original) (c .correcting) x y name l _ _ _ _ (c .prints)
 
-  pub any-fits : (p : Plan) (room : ℕ) → Is (row the-type) p vs → SoundPlan line p → 400 ≤ room → p ≡ fittedOf st name p room
+  pub any-fits : (p : Plan) (room : ℕ) → Is (row the-type) p vs → SoundPlan line p → longestPrint ≤ room → p ≡ fittedOf st name p room
   any-fits p room g h r = told-fits st name p room (length (textOf st name p)) refl (omega (arith, text-most p g h))

@@ -18,6 +18,7 @@ use Rattle.rules.specs.declared.Line.{Line}
 use Rattle.rules.specs.declared.Line.the-variants.{Dated, Listed, Moded, Leveled, Stepped, Traded, Cancelled, Erred, Corrected}
 use Rattle.rules.specs.declared.Settings.{Settings}
 use Rattle.rules.specs.declared.Security.{Security}
+use Rattle.rules.specs.Sizes.{width}
 use Rattle.planner.specs.declared.Plan.{Plan}
 use Rattle.planner.specs.declared.Plan.the-variants.{Stop, Open, Enter, Change, Level, Step, Print, Cancel, Correct}
 use Rattle.planner.specs.Plan.{datePlan, listingPlan, unlessStopped, printPlan, tradePlan, cancelOf, cancelPlan, correctionOf, correctionPlan, linePlan, readPlan, planOf, SoundListing, SoundTrade, SoundCorrection, SoundLine}
@@ -44,7 +45,7 @@ module _ (st : Settings) (table names line : List ℕ) where
   unfolding datePlan SoundPlan
   date-sound n = either line _ _ _ tt (λ e. tt)
 
-  listing-sound : (name : List ℕ) (l : Listing) → SoundListing l → length line ≡ 100 → SoundPlan line (listingPlan table names name l)
+  listing-sound : (name : List ℕ) (l : Listing) → SoundListing l → length line ≡ width → SoundPlan line (listingPlan table names name l)
   unfolding listingPlan SoundPlan
   listing-sound name l h k =
       either line _ _ _ tt (λ e.
@@ -58,7 +59,7 @@ module _ (st : Settings) (table names line : List ℕ) where
       either line _ _ _ tt (λ f.
       either line _ _ _ tt (λ g. h (has-unit s e))))
 
-  module _ (k : length line ≡ 100) where
+  module _ (k : length line ≡ width) where
     trade-sound : (s : Security) (t : Trade) → SoundTrade t → SideColumns (firstSide line) (t .side) → SoundPlan line (tradePlan st s t)
     unfolding tradePlan printPlan SoundPlan
     trade-sound s t h w = stops-sound s t _ (λ u. record { place-is = omega (arith, h .low, h .high); unit-is = u; line-is = k; stands = w })
@@ -86,7 +87,7 @@ module _ (st : Settings) (table names line : List ℕ) where
     line-sound name (Erred t) h w = cancel-sound true _ t h w
     line-sound name (Corrected c) h w = correction-sound _ c h w
 
-  read-sound : length line ≡ 100 → SoundPlan line (readPlan st table names line)
+  read-sound : length line ≡ width → SoundPlan line (readPlan st table names line)
   unfolding readPlan SoundPlan isFormed isRanged lineOf
   read-sound k =
       either line _ _ _ tt (λ e.

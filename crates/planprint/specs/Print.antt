@@ -13,6 +13,7 @@ use Rattle.rules.specs.Correction.{correctionText, cancelText, cancelOpening, e
 use Rattle.rules.specs.Announcement.{modeText, levelText, stepText}
 use Rattle.rules.specs.declared.Refusal.the-variants.{Room}
 use Rattle.rules.specs.declared.Settings.{Settings}
+use Rattle.rules.specs.Sizes.{width, securityPlaces}
 use Rattle.table.specs.Rows.{nameOf}
 use Rattle.trade.specs.Columns.{SideColumns}
 use Rattle.planner.specs.declared.TradePlan.{TradePlan}
@@ -70,28 +71,28 @@ printOf st names p = textOf st (printedName names p) p
 -- ---- what the plan of a line owes
 
 pub record SoundPrint (line : List ℕ) (t : TradePlan) : Type 0 where
-  pub place-is : t .place < 512
+  pub place-is : t .place < securityPlaces
   pub unit-is : 1 ≤ t .unit
-  pub line-is : length line ≡ 100
+  pub line-is : length line ≡ width
   pub stands : SideColumns (firstSide line) (t .side)
 
 pub record SoundCancel (line : List ℕ) (t : CancelPlan) : Type 0 where
-  pub place-is : t .place < 512
+  pub place-is : t .place < securityPlaces
   pub unit-is : 1 ≤ t .unit
-  pub line-is : length line ≡ 100
+  pub line-is : length line ≡ width
   pub stands : SideColumns (firstSide line) (t .side)
 
 pub record SoundCorrect (line : List ℕ) (c : CorrectionPlan) : Type 0 where
-  pub place-is : c .place < 512
+  pub place-is : c .place < securityPlaces
   pub unit-is : 1 ≤ c .unit
-  pub line-is : length line ≡ 100
+  pub line-is : length line ≡ width
   pub original-stands : SideColumns (firstSide line) (c .original)
   pub correcting-stands : SideColumns (secondSide line) (c .correcting)
 
 unfoldable pub SoundPlan : List ℕ → Plan → Type 0
 SoundPlan line (Stop r) = Unit {0}
 SoundPlan line (Open n) = Unit {0}
-SoundPlan line (Enter i s) = (i < 512) × (length line ≡ 100)
+SoundPlan line (Enter i s) = (i < securityPlaces) × (length line ≡ width)
 SoundPlan line (Change m) = Unit {0}
 SoundPlan line (Level n) = Unit {0}
 SoundPlan line (Step n) = Unit {0}

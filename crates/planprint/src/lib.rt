@@ -4,8 +4,13 @@ use planner::CancelPlan;
 use planner::CorrectionPlan;
 use planner::Plan;
 use planner::TradePlan;
+use rules::FIRST_SIDE;
+use rules::LONGEST_PRINT;
 use rules::Refusal;
+use rules::SECOND_SIDE;
+use rules::SIDES_END;
 use rules::Settings;
+use table::Names;
 ghost use mathlib.Core.Path.{_≡_};
 ghost use Prim.Native.Nat.{_≤_};
 ghost use mathlib.Core.Bool.{false};
@@ -17,7 +22,7 @@ ghost use Rattle.planprint.specs.Print.{SoundPrint, SoundCancel, SoundCo
 
 // ---- the print: its length, whether it fits, its writer
 
-fn print_length(names: &[u8; 9728], line: &[u8], t: TradePlan) -> usize
+fn print_length(names: &Names, line: &[u8], t: TradePlan) -> usize
     requires { ⌜ SoundPrint (now line) t ⌝ }
     ensures { λ r. ⌜ r ≡ length (printText (nameText (t .temporary) (nameOf (now (names .entry)) (t .place))) t) ⌝ }
 {
@@ -29,7 +34,7 @@ fn print_length(names: &[u8; 9728], line: &[u8], t: TradePlan) -> usize
     0
 }
 
-fn cancel_length(names: &[u8; 9728], line: &[u8], t: CancelPlan) -> usize
+fn cancel_length(names: &Names, line: &[u8], t: CancelPlan) -> usize
     requires { ⌜ SoundCancel (now line) t ⌝ }
     ensures { λ r. ⌜ r ≡ length (cancelled (nameText false (nameOf (now (names .entry)) (t .place))) t) ⌝ }
 {
@@ -38,7 +43,7 @@ fn cancel_length(names: &[u8; 9728], line: &[u8], t: CancelPlan) -> usize
     amendment::cancel_length(t.error, name, t.network, t.unit, t.full, t.shows, side)
 }
 
-fn correction_length(names: &[u8; 9728], line: &[u8], c: CorrectionPlan) -> usize
+fn correction_length(names: &Names, line: &[u8], c: CorrectionPlan) -> usize
     requires { ⌜ SoundCorrect (now line) c ⌝ }
     ensures { λ r. ⌜ r ≡ length (corrected (nameText false (nameOf (now (names .entry)) (c .place))) c) ⌝ }
 {
@@ -51,7 +56,7 @@ fn correction_length(names: &[u8; 9728], line: &[u8], c: CorrectionPlan) -> usiz
     0
 }
 
-fn text_length(st: Settings, names: &[u8; 9728], line: &[u8], p: Plan) -> usize
+fn text_length(st: Settings, names: &Names, line: &[u8], p: Plan) -> usize
     requires { ⌜ SoundPlan (now line) p ⌝ }
     ensures { λ r. ⌜ r ≡ length (printOf st (now (names .entry)) p) ⌝ }
 {
@@ -70,11 +75,11 @@ fn text_length(st: Settings, names: &[u8; 9728], line: &[u8], p: Plan) -> usize
 }
 
 // 13: the lent tape is shorter than the print.
-pub fn fitted(st: Settings, names: &[u8; 9728], line: &[u8], p: Plan, room: usize) -> Plan
+pub fn fitted(st: Settings, names: &Names, line: &[u8], p: Plan, room: usize) -> Plan
     requires { ⌜ SoundPlan (now line) p ⌝ }
     ensures { λ r. ⌜ r ≡ fittedOf st (printedName (now (names .entry)) p) p room ⌝ }
 {
-    if 400 <= room {
+    if LONGEST_PRINT <= room {
         return p; // no print is longer
     }
     if room < text_length(st, names, line, p) {
@@ -83,7 +88,7 @@ pub fn fitted(st: Settings, names: &[u8; 9728], line: &[u8], p: Plan, room: usiz
     p
 }
 
-fn write_print(rest: &mut [u8], names: &[u8; 9728], line: &[u8], t: TradePlan) -> usize
+fn write_print(rest: &mut [u8], names: &Names, line: &[u8], t: TradePlan) -> usize
     requires { ⌜ SoundPrint (now line) t × (length (printText (nameText (t .temporary) (nameOf (now names) (t .place))) t) ≤ length (now rest)) ⌝ }
     ensures { λ r. ⌜ Written (printText (nameText (t .temporary) (nameOf (now (names .entry)) (t .place))) t) (now (rest .entry)) (now (rest .exit)) r ⌝ }
 {
@@ -99,13 +104,13 @@ fn write_print(rest: &mut [u8], names: &[u8; 9728], line: &[u8], t: TradePlan) -
             t.full,
             t.shows,
             side,
-            &line[6..52],
+            &line[FIRST_SIDE..SECOND_SIDE],
         );
     }
     0
 }
 
-fn write_cancel(rest: &mut [u8], names: &[u8; 9728], line: &[u8], t: CancelPlan) -> usize
+fn write_cancel(rest: &mut [u8], names: &Names, line: &[u8], t: CancelPlan) -> usize
     requires { ⌜ SoundCancel (now line) t × (length (cancelled (nameText false (nameOf (now names) (t .place))) t) ≤ length (now rest)) ⌝ }
     ensures { λ r. ⌜ Written (cancelled (nameText false (nameOf (now (names .entry)) (t .place))) t) (now (rest .entry)) (now (rest .exit)) r ⌝ }
 {
@@ -120,11 +125,11 @@ fn write_cancel(rest: &mut [u8], names: &[u8; 9728], line: &[u8], t: CancelPlan)
         t.full,
         t.shows,
         side,
-        &line[6..52],
+        &line[FIRST_SIDE..SECOND_SIDE],
     )
 }
 
-fn write_correction(rest: &mut [u8], names: &[u8; 9728], line: &[u8], c: CorrectionPlan) -> usize
+fn write_correction(rest: &mut [u8], names: &Names, line: &[u8], c: CorrectionPlan) -> usize
     requires { ⌜ SoundCorrect (now line) c × (length (corrected (nameText false (nameOf (now names) (c .place))) c) ≤ length (now rest)) ⌝ }
     ensures { λ r. ⌜ Written (corrected (nameText false (nameOf (now (names .entry)) (c .place))) c) (now (rest .entry)) (now (rest .exit)) r ⌝ }
 {
@@ -141,14 +146,14 @@ fn write_correction(rest: &mut [u8], names: &[u8; 9728], line: &[u8], c: Correct
             c.shows,
             x,
             y,
-            &line[6..52],
-            &line[52..98],
+            &line[FIRST_SIDE..SECOND_SIDE],
+            &line[SECOND_SIDE..SIDES_END],
         );
     }
     0
 }
 
-pub fn write_text(rest: &mut [u8], st: Settings, names: &[u8; 9728], line: &[u8], p: Plan) -> usize
+pub fn write_text(rest: &mut [u8], st: Settings, names: &Names, line: &[u8], p: Plan) -> usize
     requires { ⌜ SoundPlan (now line) p × (length (printOf st (now names) p) ≤ length (now rest)) ⌝ }
     ensures { λ r. ⌜ Written (printOf st (now (names .entry)) p) (now (rest .entry)) (now (rest .exit)) r ⌝ }
 {

@@ -3,6 +3,7 @@ use Prim.Native.Nat.{ℕ, _*_}
 use mathlib.Core.Path.{_≡_}
 use mathlib.Core.List.{List}
 use lib.ListN.{replicate}
+use Rattle.table.specs.Sizes.{tableSize, namesSize}
 use Rattle.rules.specs.Line.{nameColumns}
 use Rattle.rules.specs.Day.{opened}
 use Rattle.rules.specs.declared.Mode.{Mode}
@@ -65,7 +66,7 @@ module _ (table : List ℕ) (p : Plan) where
   unfolding tableAfter
   table-stop r e = rw e
 
-  pub table-open : (n : ℕ) (x : List ℕ) → p ≡ Open n → x ≡ replicate 5632 0 → x ≡ tableAfter table p
+  pub table-open : (n : ℕ) (x : List ℕ) → p ≡ Open n → x ≡ replicate tableSize 0 → x ≡ tableAfter table p
   unfolding tableAfter
   table-open n x e h = rw e h
 
@@ -106,7 +107,7 @@ module _ (names line : List ℕ) (p : Plan) where
   unfolding namesAfter
   names-stop r e = rw e
 
-  pub names-open : (n : ℕ) (x : List ℕ) → p ≡ Open n → x ≡ replicate 9728 0 → x ≡ namesAfter names line p
+  pub names-open : (n : ℕ) (x : List ℕ) → p ≡ Open n → x ≡ replicate namesSize 0 → x ≡ namesAfter names line p
   unfolding namesAfter
   names-open n x e h = rw e h
 

@@ -2,6 +2,7 @@
 use Prim.Native.Nat.{ℕ, _*_}
 use mathlib.Core.List.{List}
 use lib.ListN.{replicate}
+use Rattle.table.specs.Sizes.{tableSize, namesSize}
 use Rattle.rules.specs.Line.{nameColumns}
 use Rattle.rules.specs.Day.{opened}
 use Rattle.rules.specs.declared.Settings.{Settings}
@@ -22,7 +23,7 @@ settingsAfter st (Correct c) = st
 
 unfoldable pub tableAfter : List ℕ → Plan → List ℕ
 tableAfter table (Stop r) = table
-tableAfter table (Open n) = replicate 5632 0
+tableAfter table (Open n) = replicate tableSize 0
 tableAfter table (Enter i s) = withRow table i s
 tableAfter table (Change m) = table
 tableAfter table (Level n) = table
@@ -33,7 +34,7 @@ tableAfter table (Correct c) = withRow table (c .place) (c .after)
 
 unfoldable pub namesAfter : List ℕ → List ℕ → Plan → List ℕ
 namesAfter names line (Stop r) = names
-namesAfter names line (Open n) = replicate 9728 0
+namesAfter names line (Open n) = replicate namesSize 0
 namesAfter names line (Enter i s) = withName names (i * 19) (nameColumns line)
 namesAfter names line (Change m) = names
 namesAfter names line (Level n) = names

@@ -2,6 +2,8 @@
 use planner::Plan;
 use rules::Mode;
 use rules::Settings;
+use table::Names;
+use table::Table;
 ghost use mathlib.Core.Path.{_≡_};
 ghost use Rattle.rules.specs.Day.{opened};
 ghost use Rattle.planprint.specs.Print.{SoundPlan};
@@ -50,7 +52,7 @@ pub fn settings_after(st: Settings, p: Plan) -> Settings
     }
 }
 
-pub fn update_table(table: &mut [u64; 5632], line: &[u8], p: Plan)
+pub fn update_table(table: &mut Table, line: &[u8], p: Plan)
     requires { ⌜ SoundPlan (now line) p ⌝ }
     ensures { λ _. ⌜ now (table .exit) ≡ tableAfter (now (table .entry)) p ⌝ }
 {
@@ -67,7 +69,7 @@ pub fn update_table(table: &mut [u64; 5632], line: &[u8], p: Plan)
     }
 }
 
-pub fn update_names(names: &mut [u8; 9728], line: &[u8], p: Plan)
+pub fn update_names(names: &mut Names, line: &[u8], p: Plan)
     requires { ⌜ SoundPlan (now line) p ⌝ }
     ensures { λ _. ⌜ now (names .exit) ≡ namesAfter (now (names .entry)) (now (line .entry)) p ⌝ }
 {

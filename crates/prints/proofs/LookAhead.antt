@@ -1,4 +1,4 @@
--- WHAT IS PROVED OF A BLOCK WITH ENOUGH LOOK-AHEAD. A block is the front of the rest of a tape; whatever follows it, the lines that are written of it are the first lines of that rest, and the lines of what is then left, at its place, are the others; after a refusal and above the last place there are no others. A print is read in the block only where 400 bytes of it are left, or where nothing follows the block: so no line depends on where a block ends. A call that may read at all reads a print or stops. Assumes nothing.
+-- WHAT IS PROVED OF A BLOCK WITH ENOUGH LOOK-AHEAD. A block is the front of the rest of a tape; whatever follows it, the lines that are written of it are the first lines of that rest, and the lines of what is then left, at its place, are the others; after a refusal and above the last place there are no others. A print is read in the block only where `longestPrint` bytes of it are left, or where nothing follows the block: so no line depends on where a block ends. A call that may read at all reads a print or stops. Assumes nothing.
 use Prim.Native.Nat.{ℕ, zero, suc, _+_, _-_, _≤_, _<_}
 use native.Mathlib.Nat.{add-assoc, add-zero}
 use native.Mathlib.Omega.{arith}
@@ -12,6 +12,7 @@ use borrow.Author.Tests.{leb-true, leb-false, le-leb, lt-leb, eqb-true, eqb-fals
 use Rattle.text.specs.Pick.{pick}
 use Rattle.text.proofs.Texts.{and-left, and-right}
 use Rattle.text.proofs.Booleans.{and-false}
+use Rattle.rules.specs.Sizes.{longestPrint}
 use Rattle.reader.specs.Read.{printAt, readAt}
 use Rattle.reader.specs.Told.{lengthOf}
 use Rattle.short.proofs.Ahead.{ahead}
@@ -97,9 +98,9 @@ module _ (block t : List ℕ) (place : ℕ) (ended : Bool) (alone : ended ≡ tr
   told p = p .text ++ pick (p .going) (readFrom (drop (p .at) (block ++ t)) (place + p .at)) []
 
   -- the print that is read in the block is the one that stands on the tape
-  print-same : (at : ℕ) → (b : Bool) → ended ≡ b → (b || leb 400 (length block - at)) ≡ true → lengthOf (printAt (drop at block ++ t)) ≡ lengthOf (printAt (drop at block))
+  print-same : (at : ℕ) → (b : Bool) → ended ≡ b → (b || leb longestPrint (length block - at)) ≡ true → lengthOf (printAt (drop at block ++ t)) ≡ lengthOf (printAt (drop at block))
   print-same at true e h = rw (alone e, append-nil)
-  print-same at false e h = ahead (drop at block) t (omega (arith, leb-true 400 (length block - at) h, length-drop at block))
+  print-same at false e h = ahead (drop at block) t (omega (arith, leb-true longestPrint (length block - at) h, length-drop at block))
 
   module _ (p : Progress) (room : ℕ) (within : p .at ≤ length block) (going : p .going ≡ true) (placed : place + p .at ≤ 9999999999) (may : mayRead (length block - p .at) ended room ≡ true) where
     same : lengthOf (printAt (drop (p .at) (block ++ t))) ≡ lengthOf (readAt block (p .at))
@@ -144,13 +145,13 @@ module _ (block t : List ℕ) (place : ℕ) (ended : Bool) (alone : ended ≡ tr
 -- where there is room, only bytes are wanting
 module _ (left room : ℕ) (fits : 21 ≤ room) where
   -- the look-ahead
-  pub may-not : mayRead left false room ≡ false → left < 400
+  pub may-not : mayRead left false room ≡ false → left < longestPrint
   unfolding mayRead
-  may-not h = go (leb 400 left) refl
+  may-not h = go (leb longestPrint left) refl
     where
-      go : (b : Bool) → leb 400 left ≡ b → left < 400
-      go true e = absurd (true≢false (sym (rw (le-leb 1 left (omega (arith, leb-true 400 left e)), le-leb 21 room fits, e)) ∙ h))
-      go false e = leb-false 400 left e
+      go : (b : Bool) → leb longestPrint left ≡ b → left < longestPrint
+      go true e = absurd (true≢false (sym (rw (le-leb 1 left (omega (arith, leb-true longestPrint left e)), le-leb 21 room fits, e)) ∙ h))
+      go false e = leb-false longestPrint left e
 
   -- or any
   pub may-none : mayRead left true room ≡ false → left ≡ 0

@@ -10,6 +10,7 @@ use mir.Val.{Fits}
 use mir.Syntax.{w64}
 use Rattle.text.specs.Put.{Written}
 use Rattle.text.proofs.Writing.{then}
+use Rattle.rules.specs.Sizes.{longestPrint}
 use Rattle.right.proofs.Writes.{length-right}
 use Rattle.reader.specs.declared.ReadAnswer.{ReadAnswer}
 use Rattle.reader.specs.Read.{readAt}
@@ -20,18 +21,18 @@ use Rattle.prints.specs.Block.{printRead, Steps}
 use Rattle.prints.specs.declared.Reading.{Reading}
 
 -- 21 bytes
-pub length-line : (place n : ℕ) → place ≤ 9999999999 → n ≤ 400 → length (lineOf place n) ≡ 21
+pub length-line : (place n : ℕ) → place ≤ 9999999999 → n ≤ longestPrint → length (lineOf place n) ≡ 21
 unfolding lineOf
 length-line place n h l = simp length-append (omega (arith, length-right 9 place (omega arith), length-right 9 n (omega arith)))
 
-pub at-most : (block : List ℕ) (at : ℕ) → lengthOf (readAt block at) ≤ 400
+pub at-most : (block : List ℕ) (at : ℕ) → lengthOf (readAt block at) ≤ longestPrint
 unfolding readAt
 at-most block at = read-short (drop at block)
 
 -- ---- an answer a of n bytes where the reading stands
 
 module _ (block : List ℕ) (place : ℕ) (r : Reading) (a : ReadAnswer) (n : ℕ) (is : a ≡ readAt block (r .at)) (count : n ≡ lengthOf a) where
-  pub read-most : n ≤ 400
+  pub read-most : n ≤ longestPrint
   read-most = omega (arith, count, ap lengthOf is, at-most block (r .at))
 
   pub read-adds : place + r .at ≤ 9999999999 → Fits w64 (r .at + n)

@@ -6,6 +6,7 @@ use mathlib.Core.List.{List, [], _++_}
 use lib.Dec.{leb}
 use lib.ListN.{length}
 use Rattle.text.specs.Put.{Written}
+use Rattle.rules.specs.Sizes.{longestPrint}
 use Rattle.reader.specs.Read.{readAt}
 use Rattle.reader.specs.Told.{lengthOf}
 use Rattle.prints.specs.Tape.{lineOf}
@@ -31,9 +32,9 @@ printRead block place p =
       going = leb 1 n && leb (place + p .at + n) 9999999999;
     }
 
--- a print is read where `left` bytes of the block are left: at least one, and 400 unless the tape ends with the block; and where there is room for a line
+-- a print is read where `left` bytes of the block are left: at least one, and `longestPrint` unless the tape ends with the block; and where there is room for a line
 unfoldable pub mayRead : ℕ → Bool → ℕ → Bool
-mayRead left ended room = leb 1 left && (leb 21 room && (ended || leb 400 left))
+mayRead left ended room = leb 1 left && (leb 21 room && (ended || leb longestPrint left))
 
 -- at most k prints, one behind the other
 unfoldable pub blockFrom : ℕ → ℕ → List ℕ → ℕ → Bool → Progress → Progress

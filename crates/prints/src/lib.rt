@@ -1,11 +1,13 @@
 // A block of a tape to the lines of the reader's program (document 01, "Reader"): place and length of each print, gathered in
 // a lent block.
+use rules::LONGEST_PRINT;
 ghost use mathlib.Core.Path.{_≡_};
 ghost use mathlib.Core.Bool.{_&&_};
 ghost use Prim.Native.Nat.{_+_, _-_, _≤_};
 ghost use lib.Dec.{leb};
 ghost use lib.ListN.{length};
 ghost use Rattle.text.specs.Put.{Written};
+ghost use Rattle.rules.specs.Sizes.{longestPrint};
 ghost use Rattle.prints.specs.Tape.{lineOf};
 ghost use Rattle.prints.specs.Block.{mayRead, blockRead, Stands, Steps};
 
@@ -30,7 +32,7 @@ fn write_line(rest: &mut [u8], place: u64, n: u64) -> usize
 
 // Behind a print of n bytes at a place.
 fn goes_on(place: u64, n: u64) -> bool
-    requires { ⌜ (place ≤ 9999999999) × (n ≤ 400) ⌝ }
+    requires { ⌜ (place ≤ 9999999999) × (n ≤ longestPrint) ⌝ }
     ensures { λ r. ⌜ r ≡ leb 1 n && leb (place + n) 9999999999 ⌝ }
 {
     if n < 1 {
@@ -72,10 +74,10 @@ fn may_read(left: usize, ended: bool, room: usize) -> bool
     if ended {
         return true;
     }
-    400 <= left
+    LONGEST_PRINT <= left
 }
 
-// Each print of the block, as long as 400 bytes of it are left, or any where the tape ends with it, and 21 bytes of the lent
+// Each print of the block, as long as LONGEST_PRINT bytes of it are left, or any where the tape ends with it, and 21 bytes of the lent
 // lines.
 pub fn read_block(block: &[u8], place: u64, ended: bool, lines: &mut [u8]) -> Reading
     ensures { λ r. ⌜ Stands (now (lines .entry)) (blockRead (length (now (lines .entry))) (now (block .entry)) place ended) (now (lines .exit)) r ⌝ }

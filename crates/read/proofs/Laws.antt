@@ -9,6 +9,7 @@ use mir.Syntax.{w64}
 use lib.ListN.{length, take, drop, length-drop}
 use lib.Seq.{length-take-le}
 use borrow.Author.Tests.{not-false}
+use Rattle.rules.specs.Sizes.{longestPrint}
 use Rattle.prints.specs.declared.Reading.{Reading}
 use Rattle.prints.specs.Block.{mayRead, blockRead, Stands}
 use Rattle.prints.proofs.Blocks.{lines-length}
@@ -69,8 +70,8 @@ stopped-kept s r h = record {
 }
 
 module _ (s r : State) (k : Kept s r) (g : not (r .going) ≡ false) (at : r .at ≡ s .at) where
-  -- fewer than 400 bytes are left where no print was read
-  pub few-left : r .ended ≡ false → r .have - r .at < 400
+  -- fewer than `longestPrint` bytes are left where no print was read
+  pub few-left : r .ended ≡ false → r .have - r .at < longestPrint
   few-left e = k .few (not-false (r .going) g) at e
 
   -- none at the tape's end

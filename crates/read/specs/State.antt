@@ -3,6 +3,7 @@ use Prim.Native.Nat.{ℕ, _+_, _-_, _≤_, _<_}
 use mathlib.Core.Path.{_≡_}
 use mathlib.Core.Bool.{true, false}
 use mathlib.Core.List.{List}
+use Rattle.rules.specs.Sizes.{longestPrint}
 use Rattle.refill.specs.Block.{unused}
 use Rattle.read.specs.declared.State.{State}
 
@@ -15,8 +16,8 @@ pub record Within (s : State) (n : ℕ) : Type 0 where
 abbrev pub unread : State → List ℕ → List ℕ
 unread s block = unused (s .at) (s .have) block
 
--- where prints were read from s to r and there is more to do: the place has moved on with the block's; where no print was read, fewer than 400 bytes are left, and none if the tape ends with them
+-- where prints were read from s to r and there is more to do: the place has moved on with the block's; where no print was read, fewer than `longestPrint` bytes are left, and none if the tape ends with them
 pub record Kept (s r : State) : Type 0 where
   pub placed : r .going ≡ true → r .place + s .at ≡ s .place + r .at
-  pub few : r .going ≡ true → r .at ≡ s .at → r .ended ≡ false → r .have - r .at < 400
+  pub few : r .going ≡ true → r .at ≡ s .at → r .ended ≡ false → r .have - r .at < longestPrint
   pub none : r .going ≡ true → r .at ≡ s .at → r .ended ≡ true → r .have ≤ r .at

@@ -1,10 +1,11 @@
 // The reader's program (document 01, "Reader"): a tape on standard input, place and length of each print on standard output.
-// Input is read in blocks; prints are read as parts of a block, with 400 bytes of look-ahead while the tape goes on.
+// Input is read in blocks; prints are read as parts of a block, with LONGEST_PRINT bytes of look-ahead while the tape goes on.
 use libc::STDOUT_FILENO;
 ghost use mathlib.Core.Path.{_≡_};
 ghost use mathlib.Core.Bool.{true, false};
 ghost use Prim.Native.Nat.{_+_, _-_, _≤_, _<_};
 ghost use lib.ListN.{length, take};
+ghost use Rattle.rules.specs.Sizes.{longestPrint};
 ghost use Rattle.read.specs.State.{Within, unread, Kept};
 
 // The place on the tape, the part of the block that is not yet read, whether the tape ends with it, and whether there is more
@@ -52,7 +53,7 @@ fn over(s: State) -> State
 
 // More of the tape, behind what is not yet read; a short read is no end.
 fn read_more(s: State, block: &mut [u8]) -> State
-    requires { ⌜ Within s (length (now block)) × (400 ≤ length (now block)) × (s .have - s .at < 400) ⌝ }
+    requires { ⌜ Within s (length (now block)) × (longestPrint ≤ length (now block)) × (s .have - s .at < longestPrint) ⌝ }
     ensures { λ r. ⌜ Within r (length (now (block .exit))) × (r .place ≡ s .place) × (take (s .have - s .at) (unread r (now (block .exit))) ≡ unread s (now (block .entry))) ⌝ }
 {
     let at = s.at;
@@ -94,7 +95,7 @@ fn read_prints(s: State, block: &[u8], lines: &mut [u8]) -> State
 
 // One turn: prints are read and their lines written, or the block is filled up; at the tape's end it stops.
 fn turn(s: State, block: &mut [u8], lines: &mut [u8]) -> State
-    requires { ⌜ Within s (length (now block)) × (400 ≤ length (now block)) × (21 ≤ length (now lines)) ⌝ }
+    requires { ⌜ Within s (length (now block)) × (longestPrint ≤ length (now block)) × (21 ≤ length (now lines)) ⌝ }
     ensures { λ r. ⌜ Within r (length (now (block .exit))) ⌝ }
 {
     let r = read_prints(s, block, lines);
@@ -111,7 +112,7 @@ fn turn(s: State, block: &mut [u8], lines: &mut [u8]) -> State
 }
 
 fn run(block: &mut [u8], lines: &mut [u8])
-    requires { ⌜ (400 ≤ length (now block)) × (21 ≤ length (now lines)) ⌝ }
+    requires { ⌜ (longestPrint ≤ length (now block)) × (21 ≤ length (now lines)) ⌝ }
 {
     let mut s = started();
     let mut turns = u64::MAX;

@@ -11,6 +11,7 @@ use Rattle.text.specs.Pick.{pick}
 use Rattle.text.specs.Reading.{span}
 use Rattle.text.proofs.Texts.{and-left, and-right}
 use Rattle.text.proofs.Parts.{span-short}
+use Rattle.rules.specs.Sizes.{width}
 use Rattle.rules.specs.declared.Number.{Number}
 use Rattle.rules.specs.declared.Number.the-variants.{Blank, Bad, Is}
 use Rattle.rules.specs.Columns.{isBlank, notBlank, word, valueOf, passes, between}
@@ -31,7 +32,7 @@ unfolding word
 word-short s = span-short notBlank s
 
 -- the columns of a name
-pub name-length : (line : List ℕ) → length line ≡ 100 → length (nameColumns line) ≡ 19
+pub name-length : (line : List ℕ) → length line ≡ width → length (nameColumns line) ≡ 19
 name-length line h = rw (length-take, length-drop) (omega arith)
 
 -- ---- numbers within their values

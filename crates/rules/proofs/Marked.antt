@@ -8,6 +8,7 @@ use Rattle.text.specs.Bytes.{bytes}
 use Rattle.text.specs.Pick as text·Pick
 use Rattle.text.specs.Decimal as text·Decimal
 use Rattle.text.specs.Reading as text·Reading
+use Rattle.rules.specs.Sizes.{width}
 use Rattle.rules.specs.Tape
 use Rattle.rules.specs.Columns
 use Rattle.rules.specs.Names
@@ -26,7 +27,7 @@ use Rattle.rules.specs.Day.{Day}
 
 -- a line with its trailing blanks drawn
 pub padded : String → List ℕ
-padded s = bytes s ++ replicate (100 - length (bytes s)) 32
+padded s = bytes s ++ replicate (width - length (bytes s)) 32
 
 -- the tape of a list of lines, each with room for its print
 pub tape : Day → List String → List ℕ

@@ -6,6 +6,7 @@ use mathlib.Core.Option.{Option, none, some}
 use lib.Dec.{leb, ltb, eqb}
 use lib.ListN.{length, getD, set, replicate}
 use Rattle.text.specs.Pick.{pick, opt}
+use Rattle.rules.specs.Sizes.{securityPlaces}
 use Rattle.rules.specs.Columns.{column}
 use Rattle.rules.specs.Names.{nameText, sameName, hasTemporary}
 use Rattle.rules.specs.Conditions.{onNetwork}
@@ -48,7 +49,7 @@ opened date = record { date = date; mode = Normal; level = 5000; minimum = 1 }
 
 -- a D line clears table, settings and day state
 unfoldable pub cleared : ℕ → Day
-cleared date = record { settings = opened date; securities = replicate 512 vacant; names = replicate 512 noName }
+cleared date = record { settings = opened date; securities = replicate securityPlaces vacant; names = replicate securityPlaces noName }
 
 -- a fresh state: no D accepted yet
 unfoldable pub fresh : Day

@@ -1,3 +1,4 @@
+pub mod Sizes
 -- Document 01, section by section. What a reader of the project has to believe stands in these files.
 pub mod Tape
 pub mod Columns

@@ -6,6 +6,7 @@ use lib.Dec.{leb, ltb, eqb}
 use lib.ListN.{length}
 use Rattle.text.specs.Bytes.{bytes}
 use Rattle.text.specs.Pick.{pick, all, among}
+use Rattle.rules.specs.Sizes.{width, securityPlaces}
 use Rattle.rules.specs.Columns.{columns, column, blank, numberIn, isNumber, numberOrBlank, valueOf, passes, between, isRoot, isDate}
 use Rattle.rules.specs.Names.{lawfulName}
 use Rattle.rules.specs.Conditions.{lettersFormed, lettersIn, lawfulLetters}
@@ -28,7 +29,7 @@ unfoldable pub isPrintable : ℕ → Bool
 isPrintable c = between 32 126 c
 
 unfoldable pub isShaped : List ℕ → Bool
-isShaped line = eqb (length line) 100 && all isPrintable line
+isShaped line = eqb (length line) width && all isPrintable line
 
 -- the kinds
 unfoldable pub isKind : ℕ → Bool
@@ -147,7 +148,7 @@ nameColumns line = columns 6 24 line
 -- ---- refusal 4: each field in its form
 
 unfoldable pub dateFormed : List ℕ → Bool
-dateFormed line = isNumber (numberIn (columns 2 9 line)) && blank (columns 10 100 line)
+dateFormed line = isNumber (numberIn (columns 2 9 line)) && blank (columns 10 width line)
 
 unfoldable pub listingFormed : List ℕ → Bool
 listingFormed line =
@@ -157,23 +158,23 @@ listingFormed line =
     && (isNetwork (column 28 line)
     && (isMarket (column 29 line)
     && (isNumber (numberIn (columns 30 30 line))
-    && blank (columns 31 100 line))))))
+    && blank (columns 31 width line))))))
 
 unfoldable pub modeFormed : List ℕ → Bool
-modeFormed line = isMode (column 2 line) && blank (columns 3 100 line)
+modeFormed line = isMode (column 2 line) && blank (columns 3 width line)
 
 unfoldable pub levelFormed : List ℕ → Bool
-levelFormed line = isNumber (numberIn (columns 2 7 line)) && blank (columns 8 100 line)
+levelFormed line = isNumber (numberIn (columns 2 7 line)) && blank (columns 8 width line)
 
 unfoldable pub stepFormed : List ℕ → Bool
-stepFormed line = isNumber (numberIn (columns 2 4 line)) && blank (columns 5 100 line)
+stepFormed line = isNumber (numberIn (columns 2 4 line)) && blank (columns 5 width line)
 
 unfoldable pub tradeFormed : List ℕ → Bool
 tradeFormed line =
     isNumber (numberIn (columns 2 5 line))
     && (isMarket (column 6 line)
     && (sideFormed (firstSide line)
-    && blank (columns 53 100 line)))
+    && blank (columns 53 width line)))
 
 unfoldable pub correctionFormed : List ℕ → Bool
 correctionFormed line =
@@ -181,12 +182,12 @@ correctionFormed line =
     && (isMarket (column 6 line)
     && (sideFormed (firstSide line)
     && (sideFormed (secondSide line)
-    && blank (columns 99 100 line))))
+    && blank (columns 99 width line))))
 
 -- ---- refusal 5: each number within its values
 
 unfoldable pub isSecurityNumber : ℕ → Bool
-isSecurityNumber n = between 1 512 n
+isSecurityNumber n = between 1 securityPlaces n
 
 -- unit 1, 10, 25, 50 or 100
 unfoldable pub isUnit : ℕ → Bool

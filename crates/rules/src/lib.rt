@@ -1,6 +1,27 @@
 // Document 01 as definitions. The types that code and definitions share are declared here; what they mean,
 // and every rule, is in specs/, one module a section, in the document's order.
 
+// The columns of a day line (Day lines).
+pub const WIDTH: usize = 100;
+
+// Where the columns of a side begin in a T, X, E or C line, those of a C's correcting trade, and what follows them.
+pub const FIRST_SIDE: usize = 6;
+
+pub const SIDE_WIDTH: usize = 46;
+
+pub const SECOND_SIDE: usize = FIRST_SIDE + SIDE_WIDTH;
+
+pub const SIDES_END: usize = SECOND_SIDE + SIDE_WIDTH;
+
+// How many securities a day may have, numbered from 1 (Day lines, S).
+pub const PLACES: usize = 512;
+
+// The columns of a name on an S line (Names).
+pub const NAME_WIDTH: usize = 19;
+
+// Every print has room in it (Lines not taken, 13): none is longer (crate daytape).
+pub const LONGEST_PRINT: usize = 400;
+
 // What stands in a number's columns (Day lines).
 pub enum Number {
     Blank,

@@ -1,4 +1,4 @@
--- LOOK-AHEAD: where at least 400 bytes of a tape are there, what follows them changes nothing of the answer at their front. Assumes nothing.
+-- LOOK-AHEAD: where at least `longestPrint` bytes of a tape are there, what follows them changes nothing of the answer at their front. Assumes nothing.
 use Prim.Native.Nat.{ℕ, _+_, _≤_}
 use native.Mathlib.Omega.{arith}
 use mathlib.Core.Path.{_≡_, refl, sym, ap, _∙_, subst}
@@ -6,6 +6,7 @@ use mathlib.Core.List.{List, [], _++_, append-assoc}
 use mathlib.Core.Option.{Option, none, some}
 use lib.ListN.{length, take, drop, take-append-drop}
 use lib.Seq.{length-take-le, take-append-le}
+use Rattle.rules.specs.Sizes.{longestPrint}
 use Rattle.rules.specs.NormalPrint.{ReadFact, NormalPrint}
 use Rattle.reader.specs.declared.ReadAnswer.{ReadAnswer}
 use Rattle.reader.specs.declared.ReadAnswer.the-variants.{Announcement, Trade, Cancel, Error, Correction, Refused}
@@ -51,17 +52,17 @@ module _ (s : List ℕ) where
       go none e = omega (arith, no-length s (printAt s) e)
       go (some f) e = omega (arith, front-length, longest-print u 0 .longest (take count s) (nameIn s (printAt s)) rest f (normal f e) q)
 
-  -- no more than 400 bytes are read at a place
-  pub read-short : lengthOf (printAt s) ≤ 400
+  -- no more than `longestPrint` bytes are read at a place
+  pub read-short : lengthOf (printAt s) ≤ longestPrint
   read-short = go (factIn s (printAt s)) refl
     where
-      go : (f : Option ReadFact) → factIn s (printAt s) ≡ f → count ≤ 400
+      go : (f : Option ReadFact) → factIn s (printAt s) ≡ f → count ≤ longestPrint
       go none e = omega (arith, no-length s (printAt s) e)
       go (some f) e = omega (arith, front-length, print-short (normal f e))
 
 -- ---- the length
 
-module _ (s t : List ℕ) (enough : 400 ≤ length s) where
+module _ (s t : List ℕ) (enough : longestPrint ≤ length s) where
   front-same : take (count (s ++ t)) (s ++ t) ≡ take (count (s ++ t)) s
   front-same = take-append-le (count (s ++ t)) s t (omega (arith, read-short (s ++ t)))
 

@@ -1,4 +1,4 @@
--- No normal print is longer than 400 bytes. Assumes nothing.
+-- No normal print is longer than `longestPrint` bytes. Assumes nothing.
 use Prim.Native.Nat.{ℕ, _≤_}
 use native.Mathlib.Omega.{arith}
 use mathlib.Core.Path.{_≡_, refl}
@@ -12,6 +12,7 @@ use Rattle.rules.specs.Announcement.{modeText, levelText}
 use Rattle.rules.specs.Correction.{repeatsName, cancelText, correctionText, cancelOpening, errorOpening}
 use Rattle.rules.specs.NormalPrint.{ReadFact, NormalPrint}
 use Rattle.rules.specs.declared.Side.{Side}
+use Rattle.rules.specs.Sizes.{longestPrint}
 use Rattle.trade.proofs.Short.{Short, side-short}
 use Rattle.announced.specs.Announced.{mode, level}
 use Rattle.announced.proofs.Back.{announced-most}
@@ -49,12 +50,12 @@ module _ (network : ℕ) (x : Side) (h : Showable network x) where
   unfolding cancelText
   cancel-most opening six name unit l = simp length-append (omega (arith, six, side-most name unit l, pair-short x))
 
-correction-most : (network unit : ℕ) (name : List ℕ) (x y : Side) → Showable network x → Showable network y → length name ≤ 22 → length (correctionText name network unit true true x y) ≤ 400
+correction-most : (network unit : ℕ) (name : List ℕ) (x y : Side) → Showable network x → Showable network y → length name ≤ 22 → length (correctionText name network unit true true x y) ≤ longestPrint
 unfolding correctionText
 correction-most network unit name x y h k l =
     simp length-append (omega (arith, side-most network x h name unit l, again-most network y k name unit l (repeatsName (y .letters)), pair-short y))
 
-printable-short : {t n : List ℕ} {f : ReadFact} → Printable t n f → length t ≤ 400
+printable-short : {t n : List ℕ} {f : ReadFact} → Printable t n f → length t ≤ longestPrint
 printable-short (by-mode m n h) = let k = in-range 1 100 n h in omega (arith, announced-most (modeText m n) (mode m n (k .0) (k .1) refl))
 printable-short (by-level n h) = let k = in-range 5000 100000 n h in omega (arith, announced-most (levelText n) (level n (k .0) (k .1) refl))
 printable-short (by-trade network unit name x e h) = omega (arith, side-most network x h (nameText true name) unit (name-most true name))
@@ -62,6 +63,6 @@ printable-short (by-cancel network unit name x e h) = omega (arith, cancel-most 
 printable-short (by-error network unit name x e h) = omega (arith, cancel-most network x h errorOpening refl (nameText false name) unit (name-most false name))
 printable-short (by-correction network unit name x y e h k) = correction-most network unit (nameText false name) x y h k (name-most false name)
 
--- A NORMAL PRINT HAS AT MOST 400 BYTES
-pub print-short : {text name : List ℕ} {fact : ReadFact} → NormalPrint text name fact → length text ≤ 400
+-- A NORMAL PRINT HAS AT MOST `longestPrint` BYTES
+pub print-short : {text name : List ℕ} {fact : ReadFact} → NormalPrint text name fact → length text ≤ longestPrint
 print-short p = printable-short (normal-printable p)

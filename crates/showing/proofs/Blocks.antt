@@ -13,19 +13,19 @@ use Rattle.text.proofs.Writing.{written-nothing, length-put}
 use Rattle.rules.specs.declared.Settings.{Settings}
 use Rattle.blocks.specs.Lines.{lineEnd, cut}
 use Rattle.blocks.proofs.Cuts.{end-after, next-line, no-line}
-use Rattle.showing.specs.Shows.{Progress, started, lineShown, linesShown, blockShown, Stands, Steps}
+use Rattle.showing.specs.Shows.{Progress, started, lineShown, linesShown, blockShown, Stands, Steps, factRoom}
 use Rattle.showing.specs.declared.Shown.{Shown}
 
 -- ---- the equations of `linesShown`
 
 module _ (room : ℕ) (l : List ℕ) (ls : List (List ℕ)) (p : Progress) where
-  pub shown-on : 386 ≤ room - length (p .facts) → linesShown room (l ∷ ls) p ≡ linesShown room ls (lineShown l p)
+  pub shown-on : factRoom ≤ room - length (p .facts) → linesShown room (l ∷ ls) p ≡ linesShown room ls (lineShown l p)
   unfolding linesShown
-  shown-on h = rw (le-leb 386 (room - length (p .facts)) h, linesShown)
+  shown-on h = rw (le-leb factRoom (room - length (p .facts)) h, linesShown)
 
-  shown-off : room - length (p .facts) < 386 → linesShown room (l ∷ ls) p ≡ p
+  shown-off : room - length (p .facts) < factRoom → linesShown room (l ∷ ls) p ≡ p
   unfolding linesShown
-  shown-off h = rw (lt-leb 386 (room - length (p .facts)) h, linesShown)
+  shown-off h = rw (lt-leb factRoom (room - length (p .facts)) h, linesShown)
 
 pub shown-none : (room : ℕ) (p : Progress) → linesShown room [] p ≡ p
 unfolding linesShown
@@ -85,14 +85,14 @@ module _ (block facts₀ : List ℕ) (goal : Progress) (table names facts : List
     split = next-line block (s .at) end (h .end-is) (h .within) more
 
     -- there is no room for another line
-    pub here-stop : length facts - s .facts < 386 → Stands facts₀ goal table names facts s
+    pub here-stop : length facts - s .facts < factRoom → Stands facts₀ goal table names facts s
     here-stop l =
         let off = shown-off (length facts₀) line later (h .p) (rw (← room-same) l) in
         let is : h .p ≡ goal = sym off ∙ (ap (λ (ls : List (List ℕ)). linesShown (length facts₀) ls (h .p)) (sym split) ∙ h .onward) in
         rw (← is) (h .stands)
 
     -- there is
-    module _ (room : 386 ≤ length facts - s .facts) (table′ names′ facts′ : List ℕ) (r : Shown) (w : Steps (take (end - s .at) (drop (s .at) block)) table names facts s table′ names′ facts′ r) where
+    module _ (room : factRoom ≤ length facts - s .facts) (table′ names′ facts′ : List ℕ) (r : Shown) (w : Steps (take (end - s .at) (drop (s .at) block)) table names facts s table′ names′ facts′ r) where
       past : r .at ≡ end + 1
       unfolding lineShown
       past =
@@ -127,10 +127,10 @@ module _ (st : Settings) (line table names facts : List ℕ) where
   start-stands : Stands facts (started st table names) table names facts here
   start-stands = record { day-is = refl; at-is = refl; facts-is = written-nothing facts }
 
-  pub last-stop : length facts < 386 → Stands facts (linesShown (length facts) (line ∷ []) (started st table names)) table names facts here
+  pub last-stop : length facts < factRoom → Stands facts (linesShown (length facts) (line ∷ []) (started st table names)) table names facts here
   last-stop h = rw (shown-off (length facts) line [] (started st table names) (omega arith)) start-stands
 
-  pub last-on : 386 ≤ length facts → (table′ names′ facts′ : List ℕ) (r : Shown) → Steps (take (length line - 0) (drop 0 line)) table names facts here table′ names′ facts′ r
+  pub last-on : factRoom ≤ length facts → (table′ names′ facts′ : List ℕ) (r : Shown) → Steps (take (length line - 0) (drop 0 line)) table names facts here table′ names′ facts′ r
       → Stands facts (linesShown (length facts) (line ∷ []) (started st table names)) table′ names′ facts′ r
   last-on h table′ names′ facts′ r w =
       let on = shown-on (length facts) line [] (started st table names) (omega arith) ∙ shown-none (length facts) (lineShown line (started st table names)) in

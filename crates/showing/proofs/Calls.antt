@@ -11,6 +11,8 @@ use Rattle.rules.specs.Day.{Day, Call, tapeOf, after}
 use Rattle.rules.specs.Shown.{Fact, shownBy}
 use Rattle.rules.specs.declared.Refusal.{Refusal}
 use Rattle.rules.specs.declared.Settings.{Settings}
+use Rattle.rules.specs.Sizes.{longestPrint}
+use Rattle.table.specs.Sizes.{tableSize, namesSize}
 use Rattle.table.specs.Rows.{dayOf}
 use Rattle.engine.specs.declared.Outcome.{Outcome}
 use Rattle.engine.specs.declared.Outcome.the-variants.{Accepted, Refused}
@@ -25,7 +27,7 @@ use Rattle.facts.specs.declared.Entry.{Entry}
 use Rattle.facts.proofs.Agree.{short-shown}
 use Rattle.factline.specs.Lines.{lineOf}
 use Rattle.factline.proofs.Short.{entry-short}
-use Rattle.showing.specs.Shows.{call, Shows, Progress, lineShown, Stands, Steps}
+use Rattle.showing.specs.Shows.{call, Shows, Progress, lineShown, Stands, Steps, factRoom}
 use Rattle.showing.specs.declared.Told.{Told}
 use Rattle.showing.specs.declared.Shown.{Shown}
 
@@ -40,7 +42,7 @@ module _ (o : Outcome) where
 
 pub ruleset counts = (count-accepted, count-refused)
 
--- ---- the call: lent a tape of 200 bytes, `n` of them printed
+-- ---- the call: lent a tape of `longestPrint` bytes, `n` of them printed
 
 module _ (st : Settings) (table names line tape table′ names′ tape′ : List ℕ) (a : Answer) (n : ℕ) (t : Taken st table names line tape table′ names′ tape′ a) (count : n ≡ countOf (a .outcome)) where
   abbrev print : List ℕ
@@ -56,7 +58,7 @@ module _ (st : Settings) (table names line tape table′ names′ tape′ : List
   pub count-taken : (m : ℕ) → length tape′ ≡ m → n ≡ length (take n tape′)
   count-taken m e = omega (arith, count-fits m e, length-take n tape′)
 
-  module _ (rows : length table ≡ 5632) (places : length names ≡ 9728) (size : length tape ≡ 200) where
+  module _ (rows : length table ≡ tableSize) (places : length names ≡ namesSize) (size : length tape ≡ longestPrint) where
     abbrev day : Day
     day = dayOf st table names
 
@@ -72,9 +74,9 @@ module _ (st : Settings) (table names line tape table′ names′ tape′ : List
       entry-is : factIn (take n tape′) e ≡ shownBy day (call line)
       entry-is = ap (λ (x : List ℕ). factIn x e) (held .0) ∙ told
 
-      pub entry-room : (m : ℕ) → length tape′ ≡ 200 → 386 ≤ m → length (lineOf (factIn (take n tape′) e)) ≤ m
+      pub entry-room : (m : ℕ) → length tape′ ≡ longestPrint → factRoom ≤ m → length (lineOf (factIn (take n tape′) e)) ≤ m
       entry-room m z l =
-          omega (arith, entry-short (take n tape′) e (shownBy day (call line)) entry-is (short-shown st table names line 200 rows places), count-taken 200 z, count-fits 200 z)
+          omega (arith, entry-short (take n tape′) e (shownBy day (call line)) entry-is (short-shown st table names line longestPrint rows places), count-taken longestPrint z, count-fits longestPrint z)
 
       pub call-shown : (rest rest′ : List ℕ) (k : ℕ) → Written (lineOf (factIn (take n tape′) e)) rest rest′ k
           → Shows st table names line rest table′ names′ rest′ (record { settings = a .settings; count = k })

@@ -4,6 +4,7 @@ use mathlib.Core.Path.{_≡_, refl, sym, ap, _∙_}
 use mathlib.Core.List.{List, [], _∷_, _++_}
 use mathlib.Core.Option.{Option, none, some}
 use lib.ListN.{length, replicate}
+use Rattle.table.specs.Sizes.{tableSize, namesSize}
 use Rattle.rules.specs.Day.{Day, Call, opened, fresh, tapeOf, after}
 use Rattle.rules.specs.Shown.{Fact, entries, shownBy, shown}
 use Rattle.table.specs.Rows.{dayOf}
@@ -20,7 +21,7 @@ use Rattle.facts.specs.Entry.{factIn, planFact}
 use Rattle.facts.specs.declared.Entry.the-variants.{Silent}
 use Rattle.facts.proofs.Agree.{told}
 use Rattle.blocks.specs.Lines.{cut}
-use Rattle.showing.specs.Shows.{started, blockShown}
+use Rattle.showing.specs.Shows.{started, blockShown, factRoom}
 use Rattle.showing.specs.Whole.{callsOf, shownText}
 use Rattle.showing.proofs.Whole.{block-shown}
 
@@ -36,7 +37,7 @@ early-none names text (Print t) h = absurd h
 early-none names text (Cancel t) h = absurd h
 early-none names text (Correct c) h = absurd h
 
-module _ (table names : List ℕ) (rows : length table ≡ 5632) (places : length names ≡ 9728) where
+module _ (table names : List ℕ) (rows : length table ≡ tableSize) (places : length names ≡ namesSize) where
   early-silent : (line : List ℕ) (room : ℕ) → none ≡ shownBy (dayOf (opened 0) table names) (record { line = line; room = room })
   unfolding factIn
   early-silent line room =
@@ -50,7 +51,7 @@ module _ (table names : List ℕ) (rows : length table ≡ 5632) (places : lengt
       ∙ ap (λ (d : Day). shown d cs) (by-rules (opened 0) table names (c .line) (c .room) rows places .day-is)
 
 -- any two tables
-module _ (table names table′ names′ : List ℕ) (rows : length table ≡ 5632) (places : length names ≡ 9728) (rows′ : length table′ ≡ 5632) (places′ : length names′ ≡ 9728) where
+module _ (table names table′ names′ : List ℕ) (rows : length table ≡ tableSize) (places : length names ≡ namesSize) (rows′ : length table′ ≡ tableSize) (places′ : length names′ ≡ namesSize) where
   -- a line is refused, or the day opens
   goes : (line : List ℕ) (cs : List Call) (p : Plan) → Early p → shown (dayOf (opened 0) table names) cs ≡ shown (dayOf (opened 0) table′ names′) cs
       → shown (dayAfter (opened 0) table names line p) cs ≡ shown (dayAfter (opened 0) table′ names′ line p) cs
@@ -77,15 +78,15 @@ module _ (table names table′ names′ : List ℕ) (rows : length table ≡ 563
 
 -- ---- from a fresh state
 
-module _ (table names : List ℕ) (rows : length table ≡ 5632) (places : length names ≡ 9728) where
+module _ (table names : List ℕ) (rows : length table ≡ tableSize) (places : length names ≡ namesSize) where
   pub fresh-shown : (cs : List Call) → shown (dayOf (opened 0) table names) cs ≡ shown fresh cs
   unfolding fresh
-  fresh-shown cs = alike table names (replicate 5632 0) (replicate 9728 0) rows places refl refl cs ∙ ap (λ (d : Day). shown d cs) (held-cleared 0)
+  fresh-shown cs = alike table names (replicate tableSize 0) (replicate namesSize 0) rows places refl refl cs ∙ ap (λ (d : Day). shown d cs) (held-cleared 0)
 
   fresh-text : (ls : List (List ℕ)) → shownText (dayOf (opened 0) table names) ls ≡ shownText fresh ls
   unfolding shownText
   fresh-text ls = rw (fresh-shown (callsOf ls))
 
   -- the lines of a whole day: its shown facts by document 01
-  pub day-shown : (room : ℕ) (block : List ℕ) → length (shownText fresh (cut block .ended)) + 386 ≤ room → blockShown room block (started (opened 0) table names) .facts ≡ shownText fresh (cut block .ended)
+  pub day-shown : (room : ℕ) (block : List ℕ) → length (shownText fresh (cut block .ended)) + factRoom ≤ room → blockShown room block (started (opened 0) table names) .facts ≡ shownText fresh (cut block .ended)
   day-shown room block h = block-shown room block (opened 0) table names (rw (fresh-text (cut block .ended)) h) ∙ fresh-text (cut block .ended)

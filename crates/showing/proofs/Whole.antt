@@ -11,7 +11,7 @@ use Rattle.rules.specs.declared.Settings.{Settings}
 use Rattle.table.specs.Rows.{dayOf}
 use Rattle.blocks.specs.Lines.{cut}
 use Rattle.factline.specs.Lines.{lineOf}
-use Rattle.showing.specs.Shows.{call, Progress, started, lineShown, linesShown, blockShown}
+use Rattle.showing.specs.Shows.{call, Progress, started, lineShown, linesShown, blockShown, factRoom}
 use Rattle.showing.specs.Whole.{factsText, callsOf, shownText}
 use Rattle.showing.proofs.Blocks.{shown-on, shown-none}
 
@@ -29,7 +29,7 @@ text-none : (day : Day) → shownText day [] ≡ []
 unfolding shownText callsOf shown factsText
 text-none day = refl
 
-pub lines-shown : (room : ℕ) (ls : List (List ℕ)) (p : Progress) → length (p .facts) + length (shownText (p .day) ls) + 386 ≤ room → linesShown room ls p .facts ≡ p .facts ++ shownText (p .day) ls
+pub lines-shown : (room : ℕ) (ls : List (List ℕ)) (p : Progress) → length (p .facts) + length (shownText (p .day) ls) + factRoom ≤ room → linesShown room ls p .facts ≡ p .facts ++ shownText (p .day) ls
 unfolding lineShown
 lines-shown room [] p h = ap (λ (q : Progress). q .facts) (shown-none room p) ∙ (sym (append-nil (p .facts)) ∙ ap (λ (t : List ℕ). p .facts ++ t) (sym (text-none (p .day))))
 lines-shown room (l ∷ ls) p h =
@@ -41,7 +41,7 @@ lines-shown room (l ∷ ls) p h =
     ∙ (ih ∙ (append-assoc (p .facts) t u ∙ ap (λ (x : List ℕ). p .facts ++ x) (sym (text-on (p .day) l ls))))
 
 -- a block, from wherever the state stands
-pub block-shown : (room : ℕ) (block : List ℕ) (st : Settings) (table names : List ℕ) → length (shownText (dayOf st table names) (cut block .ended)) + 386 ≤ room
+pub block-shown : (room : ℕ) (block : List ℕ) (st : Settings) (table names : List ℕ) → length (shownText (dayOf st table names) (cut block .ended)) + factRoom ≤ room
     → blockShown room block (started st table names) .facts ≡ shownText (dayOf st table names) (cut block .ended)
 unfolding blockShown
 block-shown room block st table names h = lines-shown room (cut block .ended) (started st table names) (omega arith)

@@ -1,4 +1,4 @@
--- What a block of day lines shows, by the rules: its lines are taken in order, each call lent a tape of 200 bytes, and the lines of the shown facts are joined. Assumes nothing.
+-- What a block of day lines shows, by the rules: its lines are taken in order, each call lent a tape of `longestPrint` bytes, and the lines of the shown facts are joined. Assumes nothing.
 use Prim.Native.Nat.{ℕ, _+_, _-_, _≤_}
 use mathlib.Core.Path.{_≡_}
 use mathlib.Core.Bool.{Bool, true, false}
@@ -9,6 +9,7 @@ use Rattle.text.specs.Put.{Written}
 use Rattle.rules.specs.Day.{Day, Call, after}
 use Rattle.rules.specs.Shown.{shownBy}
 use Rattle.rules.specs.declared.Settings.{Settings}
+use Rattle.rules.specs.Sizes.{longestPrint}
 use Rattle.table.specs.Rows.{dayOf}
 use Rattle.blocks.specs.Lines.{cut}
 use Rattle.factline.specs.Lines.{lineOf}
@@ -16,7 +17,7 @@ use Rattle.showing.specs.declared.Told.{Told}
 use Rattle.showing.specs.declared.Shown.{Shown}
 
 abbrev pub call : List ℕ → Call
-call line = record { line = line; room = 200 }
+call line = record { line = line; room = longestPrint }
 
 -- one call: state, line and the lent rest at entry, state and rest at exit, and the answer
 pub record Shows (st : Settings) (table names line rest table′ names′ rest′ : List ℕ) (r : Told) : Type 0 where
@@ -40,10 +41,14 @@ lineShown line p = record {
   facts = p .facts ++ lineOf (shownBy (p .day) (call line));
 }
 
--- lines in order, as long as 386 bytes of `room` are left
+-- any line of shown facts has room in it (crate factline, `entry-short`)
+abbrev pub factRoom : ℕ
+factRoom = 186 + longestPrint
+
+-- lines in order, as long as `factRoom` bytes of `room` are left
 unfoldable pub linesShown : ℕ → List (List ℕ) → Progress → Progress
 linesShown room [] p = p
-linesShown room (l ∷ ls) p = elim (leb 386 (room - length (p .facts))) [ true ↦ linesShown room ls (lineShown l p) | false ↦ p ]
+linesShown room (l ∷ ls) p = elim (leb factRoom (room - length (p .facts))) [ true ↦ linesShown room ls (lineShown l p) | false ↦ p ]
 
 -- a block: each line that a line feed ends
 unfoldable pub blockShown : ℕ → List ℕ → Progress → Progress

@@ -15,6 +15,6 @@ unfoldable pub callsOf : List (List ℕ) → List Call
 callsOf [] = []
 callsOf (l ∷ ls) = call l ∷ callsOf ls
 
--- what lines show from a day on, each call lent a tape of 200 bytes
+-- what lines show from a day on, each call lent a tape of `longestPrint` bytes
 unfoldable pub shownText : Day → List (List ℕ) → List ℕ
 shownText day ls = factsText (shown day (callsOf ls))

@@ -1,19 +1,25 @@
 // A block of day lines to the lines of its shown facts: each line goes to the engine as a part of the block, and the line of
-// its entry is gathered in a lent block. A call is lent a tape of 200 bytes.
+// its entry is gathered in a lent block. A call is lent a tape of LONGEST_PRINT bytes.
 use engine::Outcome;
+use rules::LONGEST_PRINT;
 use rules::Settings;
+use table::Names;
+use table::Table;
 ghost use mathlib.Core.Path.{_≡_};
 ghost use mathlib.Core.List.{[], _∷_};
 ghost use Prim.Native.Nat.{_-_, _≤_};
 ghost use lib.ListN.{length, take, drop};
 ghost use Rattle.calls.specs.Run.{countOf};
-ghost use Rattle.showing.specs.Shows.{Shows, started, linesShown, blockShown, Stands, Steps};
+ghost use Rattle.showing.specs.Shows.{Shows, started, linesShown, blockShown, Stands, Steps, factRoom};
 
 // A call's settings, and how many bytes its entry's line has.
 struct Told {
     settings: Settings,
     count: usize,
 }
+
+// Any line of shown facts has room in it.
+pub const FACT_ROOM: usize = 186 + LONGEST_PRINT;
 
 // Where the reading of a block stands: the settings, the bytes of the block that are read, the bytes in the lent facts.
 pub struct Shown {
@@ -34,19 +40,19 @@ fn count_of(o: Outcome) -> usize
 // One call, and the line of its entry at the start of `rest`.
 fn take_shown(
     st: Settings,
-    table: &mut [u64; 5632],
-    names: &mut [u8; 9728],
+    table: &mut Table,
+    names: &mut Names,
     line: &[u8],
     rest: &mut [u8],
 ) -> Told
-    requires { ⌜ 386 ≤ length (now rest) ⌝ }
+    requires { ⌜ factRoom ≤ length (now rest) ⌝ }
     ensures { λ r. ⌜ Shows st (now (table .entry)) (now (names .entry)) (now (line .entry)) (now (rest .entry)) (now (table .exit)) (now (names .exit)) (now (rest .exit)) r ⌝ }
 {
     // as slices the tables tell their sizes
     let _rows = &table[..];
     let _places = &names[..];
-    let mut tape = [0u8; 200];
-    let e = facts::entry_of(st, table, names, line, 200);
+    let mut tape = [0u8; LONGEST_PRINT];
+    let e = facts::entry_of(st, table, names, line, LONGEST_PRINT);
     let a = engine::take_line(st, table, names, line, &mut tape);
     let settings = a.settings;
     let outcome = a.outcome;
@@ -61,13 +67,13 @@ fn take_shown(
 // The line from where the reading stands up to `end`.
 fn show_line(
     s: Shown,
-    table: &mut [u64; 5632],
-    names: &mut [u8; 9728],
+    table: &mut Table,
+    names: &mut Names,
     block: &[u8],
     end: usize,
     facts: &mut [u8],
 ) -> Shown
-    requires { ⌜ (s .at ≤ end) × (end ≤ length (now block)) × (386 ≤ length (now facts) - s .facts) ⌝ }
+    requires { ⌜ (s .at ≤ end) × (end ≤ length (now block)) × (factRoom ≤ length (now facts) - s .facts) ⌝ }
     ensures { λ r. ⌜ Steps (take (end - s .at) (drop (s .at) (now (block .entry)))) (now (table .entry)) (now (names .entry)) (now (facts .entry)) s (now (table .exit)) (now (names .exit)) (now (facts .exit)) r ⌝ }
 {
     let next = end + 1;
@@ -83,11 +89,11 @@ fn show_line(
     }
 }
 
-// Each line of the block that a line feed ends, as long as 386 bytes are left of the lent facts.
+// Each line of the block that a line feed ends, as long as FACT_ROOM bytes are left of the lent facts.
 pub fn show_lines(
     settings: Settings,
-    table: &mut [u64; 5632],
-    names: &mut [u8; 9728],
+    table: &mut Table,
+    names: &mut Names,
     block: &[u8],
     facts: &mut [u8],
 ) -> Shown
@@ -100,7 +106,7 @@ pub fn show_lines(
     };
     let mut end = blocks::line_end(block, 0);
     while end < block.len() {
-        if facts.len() - s.facts < 386 {
+        if facts.len() - s.facts < FACT_ROOM {
             return s;
         }
         s = show_line(s, table, names, block, end, facts);
@@ -113,8 +119,8 @@ pub fn show_lines(
 // One line that no line feed ends.
 pub fn show_last(
     settings: Settings,
-    table: &mut [u64; 5632],
-    names: &mut [u8; 9728],
+    table: &mut Table,
+    names: &mut Names,
     line: &[u8],
     facts: &mut [u8],
 ) -> Shown
@@ -125,7 +131,7 @@ pub fn show_last(
         at: 0,
         facts: 0,
     };
-    if facts.len() < 386 {
+    if facts.len() < FACT_ROOM {
         return s;
     }
     let end = line.len();

@@ -10,6 +10,7 @@ ghost use Rattle.text.specs.Pick.{same, member};
 ghost use Rattle.text.specs.Reading.{starts};
 ghost use Rattle.rules.specs.Columns.{word};
 ghost use Rattle.rules.specs.Names.{texts, listedSuffixes, isClass, isSeries, isPreferred, isSuffix, isTemporary, isAppendage, isReserved, lawfulField, lawfulName};
+ghost use Rattle.rules.specs.Sizes.{nameWidth};
 
 // The suffixes that are listed one by one, the shortest first, six bytes each, and their lengths.
 const SUFFIX_BYTES: [u8; 252] =
@@ -262,7 +263,7 @@ fn has_lawful_appendage(network: u64, field: &[u8]) -> bool
 
 // No reserved root, and each part after the root blank or a listed text from its left.
 pub fn lawful_name(network: u64, name: &[u8]) -> bool
-    requires { ⌜ length (now name) ≡ 19 ⌝ }
+    requires { ⌜ length (now name) ≡ nameWidth ⌝ }
     ensures { λ r. ⌜ r ≡ lawfulName network (now (name .entry)) ⌝ }
 {
     if has_reserved_root(&name[..6]) {

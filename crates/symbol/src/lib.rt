@@ -10,13 +10,14 @@ ghost use Rattle.text.specs.Put.{Written};
 ghost use Rattle.rules.specs.Tape.{isRaised};
 ghost use Rattle.rules.specs.Columns.{word};
 ghost use Rattle.rules.specs.Names.{partText, nameText, hasTemporary, sameName};
+ghost use Rattle.rules.specs.Sizes.{nameWidth};
 ghost use Rattle.words.specs.Word.{WordOf};
 ghost use Rattle.symbol.specs.Laid.{Laid, dotText};
 
 // ---- a name's text
 
 pub fn has_temporary(name: &[u8]) -> bool
-    requires { ⌜ length (now name) ≡ 19 ⌝ }
+    requires { ⌜ length (now name) ≡ nameWidth ⌝ }
     ensures { λ r. ⌜ r ≡ hasTemporary (now (name .entry)) ⌝ }
 {
     let n = words::word_length(&name[13..17]);
@@ -57,7 +58,7 @@ fn shown_length(field: &[u8], shown: bool) -> usize
 
 // The length of a name, its temporary suffix shown or not.
 pub fn name_length(name: &[u8], temporary: bool) -> usize
-    requires { ⌜ length (now name) ≡ 19 ⌝ }
+    requires { ⌜ length (now name) ≡ nameWidth ⌝ }
     ensures { λ r. ⌜ (r ≡ length (nameText temporary (now (name .entry)))) × (r ≤ 22) ⌝ }
 {
     let root = words::word_length(&name[..6]);
@@ -138,7 +139,7 @@ fn lay_shown(rest: &mut [u8], field: &[u8], shown: bool) -> usize
 
 // Root, suffix, temporary suffix where it is shown, appendage.
 fn lay_name(rest: &mut [u8], name: &[u8], temporary: bool) -> usize
-    requires { ⌜ (length (now name) ≡ 19) × (22 ≤ length (now rest)) ⌝ }
+    requires { ⌜ (length (now name) ≡ nameWidth) × (22 ≤ length (now rest)) ⌝ }
     ensures { λ r. ⌜ Laid (nameText temporary (now (name .entry))) (now (rest .entry)) (now (rest .exit)) r × (r ≤ 22) ⌝ }
 {
     let a = lay_word(rest, &name[..6]);
@@ -165,7 +166,7 @@ fn write_sixteen(rest: &mut [u8], laid: &[u8], n: usize) -> usize
 
 // The name, laid in bytes of its own first; the bytes of the tape behind it keep their values.
 pub fn write_name(rest: &mut [u8], name: &[u8], temporary: bool) -> usize
-    requires { ⌜ length (now name) ≡ 19 ⌝ }
+    requires { ⌜ length (now name) ≡ nameWidth ⌝ }
     requires { ⌜ length (nameText temporary (now name)) ≤ length (now rest) ⌝ }
     ensures { λ r. ⌜ Written (nameText temporary (now (name .entry))) (now (rest .entry)) (now (rest .exit)) r ⌝ }
 {
@@ -184,7 +185,7 @@ pub fn write_name(rest: &mut [u8], name: &[u8], temporary: bool) -> usize
 
 // Two names' texts, each with its temporary suffix shown or not.
 fn same_shown(a: &[u8], shown: bool, b: &[u8], other: bool) -> bool
-    requires { ⌜ (length (now a) ≡ 19) × (length (now b) ≡ 19) ⌝ }
+    requires { ⌜ (length (now a) ≡ nameWidth) × (length (now b) ≡ nameWidth) ⌝ }
     ensures { λ r. ⌜ r ≡ same (nameText shown (now (a .entry))) (nameText other (now (b .entry))) ⌝ }
 {
     let mut first = [0u8; 22];
@@ -196,7 +197,7 @@ fn same_shown(a: &[u8], shown: bool, b: &[u8], other: bool) -> bool
 
 // The names differ in their first or second byte, neither a blank, so that no text of the one is a text of the other.
 fn begins_apart(a: &[u8], b: &[u8]) -> bool
-    requires { ⌜ (length (now a) ≡ 19) × (length (now b) ≡ 19) ⌝ }
+    requires { ⌜ (length (now a) ≡ nameWidth) × (length (now b) ≡ nameWidth) ⌝ }
     ensures { λ r. ⌜ (r ≡ true → sameName (now (a .entry)) (now (b .entry)) ≡ false) ⌝ }
 {
     if a[0] == 32 {
@@ -219,7 +220,7 @@ fn begins_apart(a: &[u8], b: &[u8]) -> bool
 
 // A name, with or without temporary suffix, equals the other's (refusal 9). Most differ in their first two bytes.
 pub fn same_name(a: &[u8], b: &[u8]) -> bool
-    requires { ⌜ (length (now a) ≡ 19) × (length (now b) ≡ 19) ⌝ }
+    requires { ⌜ (length (now a) ≡ nameWidth) × (length (now b) ≡ nameWidth) ⌝ }
     ensures { λ r. ⌜ r ≡ sameName (now (a .entry)) (now (b .entry)) ⌝ }
 {
     if begins_apart(a, b) {

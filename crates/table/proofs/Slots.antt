@@ -4,6 +4,7 @@ use native.Mathlib.Omega.{arith}
 use mathlib.Core.Path.{_≡_}
 use mathlib.Core.List.{List}
 use lib.ListN.{length, take, drop, length-take, length-drop}
+use Rattle.table.specs.Sizes.{namesSize}
 use Rattle.table.specs.Rows.{nameOf}
 
 abbrev pub cutOut : List ℕ → ℕ → List ℕ
@@ -14,5 +15,5 @@ module _ (names : List ℕ) (i : ℕ) where
   unfolding nameOf
   slot = let q : i * 19 + 19 - i * 19 ≡ 19 = omega arith in rw q
 
-  pub slot-length : i < 512 → length names ≡ 9728 → length (cutOut names i) ≡ 19
+  pub slot-length : i < 512 → length names ≡ namesSize → length (cutOut names i) ≡ 19
   slot-length h l = rw (length-take, length-drop) (omega arith)

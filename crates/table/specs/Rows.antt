@@ -2,6 +2,7 @@
 use Prim.Native.Nat.{ℕ, zero, suc, _+_, _*_}
 use mathlib.Core.List.{List, [], _∷_, _++_}
 use lib.ListN.{length, getD, set, take, drop}
+use Rattle.rules.specs.Sizes.{securityPlaces}
 use Rattle.rules.specs.declared.Security.{Security}
 use Rattle.rules.specs.declared.Settings.{Settings}
 use Rattle.rules.specs.Day.{Day}
@@ -52,4 +53,4 @@ namesFrom (suc k) i names = nameOf names i ∷ namesFrom k (suc i) names
 
 -- the day that settings and tables hold
 unfoldable pub dayOf : Settings → List ℕ → List ℕ → Day
-dayOf st table names = record { settings = st; securities = rowsFrom 512 0 table; names = namesFrom 512 0 names }
+dayOf st table names = record { settings = st; securities = rowsFrom securityPlaces 0 table; names = namesFrom securityPlaces 0 names }

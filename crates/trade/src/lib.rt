@@ -11,6 +11,7 @@ ghost use Rattle.rules.specs.Names.{nameText};
 ghost use Rattle.rules.specs.Volume.{volumeText};
 ghost use Rattle.rules.specs.Side.{headText, tailText, sideText};
 ghost use Rattle.rules.specs.Conditions.{afterName};
+ghost use Rattle.rules.specs.Sizes.{nameWidth};
 ghost use mathlib.Core.Bool.{false};
 ghost use mathlib.Core.List.{[]};
 ghost use Rattle.trade.specs.Columns.{SideColumns};
@@ -28,7 +29,7 @@ fn shown_volume_length(shows: bool, network: u64, unit: u64, v: u64) -> usize
 
 // The name and the conditions after it.
 fn head_length(name: &[u8], temporary: bool, x: Letters) -> usize
-    requires { ⌜ length (now name) ≡ 19 ⌝ }
+    requires { ⌜ length (now name) ≡ nameWidth ⌝ }
     ensures { λ r. ⌜ (r ≡ length (headText (nameText temporary (now (name .entry))) x)) × (r ≤ 42) ⌝ }
 {
     let n = symbol::name_length(name, temporary);
@@ -37,7 +38,7 @@ fn head_length(name: &[u8], temporary: bool, x: Letters) -> usize
 
 // `marked`: some letter stands in the line.
 fn write_head(rest: &mut [u8], name: &[u8], temporary: bool, marked: bool, x: Letters) -> usize
-    requires { ⌜ (length (now name) ≡ 19) × (marked ≡ false → afterName x ≡ []) × (length (headText (nameText temporary (now name)) x) ≤ length (now rest)) ⌝ }
+    requires { ⌜ (length (now name) ≡ nameWidth) × (marked ≡ false → afterName x ≡ []) × (length (headText (nameText temporary (now name)) x) ≤ length (now rest)) ⌝ }
     ensures { λ r. ⌜ Written (headText (nameText temporary (now (name .entry))) x) (now (rest .entry)) (now (rest .exit)) r ⌝ }
 {
     let at = symbol::write_name(rest, name, temporary);
@@ -79,7 +80,7 @@ pub fn side_length(
     shows: bool,
     x: Side,
 ) -> usize
-    requires { ⌜ (length (now name) ≡ 19) × (1 ≤ unit) × (x .price .d ≤ 8) × (x .previous .d ≤ 8) ⌝ }
+    requires { ⌜ (length (now name) ≡ nameWidth) × (1 ≤ unit) × (x .price .d ≤ 8) × (x .previous .d ≤ 8) ⌝ }
     ensures { λ r. ⌜ (r ≡ length (sideText (nameText temporary (now (name .entry))) network unit full shows x)) × (r ≤ 183) ⌝ }
 {
     let letters = x.letters;
@@ -103,7 +104,7 @@ pub fn write_side(
     x: Side,
     part: &[u8],
 ) -> usize
-    requires { ⌜ (length (now name) ≡ 19) × (1 ≤ unit) × SideColumns (now part) x × (length (sideText (nameText temporary (now name)) network unit full shows x) ≤ length (now rest)) ⌝ }
+    requires { ⌜ (length (now name) ≡ nameWidth) × (1 ≤ unit) × SideColumns (now part) x × (length (sideText (nameText temporary (now name)) network unit full shows x) ≤ length (now rest)) ⌝ }
     ensures { λ r. ⌜ Written (sideText (nameText temporary (now (name .entry))) network unit full shows x) (now (rest .entry)) (now (rest .exit)) r ⌝ }
 {
     let letters = x.letters;

@@ -21,6 +21,7 @@ use Rattle.rules.specs.declared.Letters.{Letters}
 use Rattle.rules.specs.Side.{sideText}
 use Rattle.rules.specs.Day.{showsTemporary}
 use Rattle.rules.specs.Trade.{printsTrade, tradeFull, tradeShows, afterTrade}
+use Rattle.rules.specs.Sizes.{longestPrint}
 use Rattle.table.specs.Rows.{withRow, nameOf}
 use Rattle.symbol.proofs.Text.{name-most}
 use Rattle.amounts.proofs.Digits.{whole-units}
@@ -40,8 +41,8 @@ pub untaken-is : record { taken = false; length = 0 } ≡ untakenOf
 unfolding untakenOf
 untaken-is = refl
 
--- no side is longer than 200 bytes
-pub room-any : (room : ℕ) (name : List ℕ) (temporary : Bool) (network unit : ℕ) (full shows : Bool) (x : Side) → Short x → 200 ≤ room → true ≡ leb (length (sideText (nameText temporary name) network unit full shows x)) room
+-- no side is longer than `longestPrint` bytes
+pub room-any : (room : ℕ) (name : List ℕ) (temporary : Bool) (network unit : ℕ) (full shows : Bool) (x : Side) → Short x → longestPrint ≤ room → true ≡ leb (length (sideText (nameText temporary name) network unit full shows x)) room
 room-any room name temporary network unit full shows x h l = sym (le-leb _ room (omega (arith, side-short x h (nameText temporary name) network unit full shows, name-most temporary name)))
 
 pub fits : (n room : ℕ) (q : Bool) → q ≡ leb n room → not q ≡ false → n ≤ room

@@ -1,16 +1,20 @@
 // A T line that is good by itself, of an entered security, carried out (document 01, "Trades by mode"): whether it prints, the
 // security after it, its print on the tape. The one way of every accepted trade, with letters or without.
+use rules::LONGEST_PRINT;
 use rules::Letters;
 use rules::Price;
 use rules::Security;
 use rules::Settings;
 use rules::Side;
+use table::Names;
+use table::Table;
 use tradeline::TradeLine;
 ghost use mathlib.Core.Path.{_≡_};
 ghost use mathlib.Core.Bool.{false};
 ghost use Prim.Native.Nat.{_≤_, _<_};
 ghost use lib.Dec.{leb};
 ghost use lib.ListN.{length};
+ghost use Rattle.rules.specs.Sizes.{nameWidth, securityPlaces};
 ghost use Rattle.rules.specs.Names.{nameText};
 ghost use Rattle.rules.specs.Side.{sideText};
 ghost use Rattle.rules.specs.Conditions.{hasRule, onNetwork};
@@ -80,7 +84,7 @@ fn has_rule(marked: bool, x: Letters) -> bool
 
 // ---- the trade
 
-// The tape has room for the print; for any, where it has 200 bytes.
+// The tape has room for the print; for any, where it has LONGEST_PRINT bytes.
 fn has_room(
     room: usize,
     name: &[u8],
@@ -91,10 +95,10 @@ fn has_room(
     shows: bool,
     x: Side,
 ) -> bool
-    requires { ⌜ (length (now name) ≡ 19) × (1 ≤ unit) × (x .price .d ≤ 8) × (x .previous .d ≤ 8) ⌝ }
+    requires { ⌜ (length (now name) ≡ nameWidth) × (1 ≤ unit) × (x .price .d ≤ 8) × (x .previous .d ≤ 8) ⌝ }
     ensures { λ r. ⌜ r ≡ leb (length (sideText (nameText temporary (now (name .entry))) network unit full shows x)) room ⌝ }
 {
-    if 200 <= room {
+    if LONGEST_PRINT <= room {
         return true;
     }
     trade::side_length(name, temporary, network, unit, full, shows, x) <= room
@@ -103,8 +107,8 @@ fn has_room(
 // A trade that prints: `value` is its price in units, `after` the security after it.
 fn print_out(
     st: Settings,
-    table: &mut [u64; 5632],
-    names: &[u8; 9728],
+    table: &mut Table,
+    names: &Names,
     place: usize,
     s: Security,
     t: TradeLine,
@@ -115,7 +119,7 @@ fn print_out(
     rule: bool,
     after: Security,
 ) -> TradeAnswer
-    requires { ⌜ (place < 512) × (1 ≤ s .unit) × SideColumns (now part) (sideIn t) × Decided st s (t .market) (sideIn t) value lasts rule after ⌝ }
+    requires { ⌜ (place < securityPlaces) × (1 ≤ s .unit) × SideColumns (now part) (sideIn t) × Decided st s (t .market) (sideIn t) value lasts rule after ⌝ }
     ensures { λ r. ⌜ Fitted st s (nameOf (now (names .entry)) place) place (t .market) (sideIn t) (now (table .entry)) (now (tape .entry)) (now (table .exit)) (now (tape .exit)) r ⌝ }
 {
     let full = decision::full_by(st, s, t.market, value / 100000000);
@@ -162,8 +166,8 @@ fn print_out(
 
 fn decide(
     st: Settings,
-    table: &mut [u64; 5632],
-    names: &[u8; 9728],
+    table: &mut Table,
+    names: &Names,
     place: usize,
     s: Security,
     t: TradeLine,
@@ -171,7 +175,7 @@ fn decide(
     tape: &mut [u8],
     marked: bool,
 ) -> TradeAnswer
-    requires { ⌜ (place < 512) × (1 ≤ s .unit) × SideColumns (now part) (sideIn t) × (marked ≡ false → t .letters ≡ noLetters) ⌝ }
+    requires { ⌜ (place < securityPlaces) × (1 ≤ s .unit) × SideColumns (now part) (sideIn t) × (marked ≡ false → t .letters ≡ noLetters) ⌝ }
     ensures { λ r. ⌜ Fitted st s (nameOf (now (names .entry)) place) place (t .market) (sideIn t) (now (table .entry)) (now (tape .entry)) (now (table .exit)) (now (tape .exit)) r ⌝ }
 {
     let letters = t.letters;
@@ -208,15 +212,15 @@ fn decide(
 // `s` is the security at its place, `part` the columns that the side stands in.
 pub fn carry_out(
     st: Settings,
-    table: &mut [u64; 5632],
-    names: &[u8; 9728],
+    table: &mut Table,
+    names: &Names,
     place: usize,
     s: Security,
     t: TradeLine,
     part: &[u8],
     tape: &mut [u8],
 ) -> TradeAnswer
-    requires { ⌜ (place < 512) × (1 ≤ s .unit) × SideColumns (now part) (sideIn t) ⌝ }
+    requires { ⌜ (place < securityPlaces) × (1 ≤ s .unit) × SideColumns (now part) (sideIn t) ⌝ }
     ensures { λ r. ⌜ Carried st s (nameOf (now (names .entry)) place) place (t .market) (sideIn t) (now (table .entry)) (now (tape .entry)) (now (table .exit)) (now (tape .exit)) r ⌝ }
 {
     let marked = part[24] != b' ';

@@ -20,6 +20,7 @@ use Rattle.rules.specs.declared.Number.the-variants.{Blank, Is}
 use Rattle.rules.specs.Columns.{columns, column, isBlank, blank, justified, digitsFrom, zeroAlone, numeral, numberIn, isNumber, numberOrBlank, valueOf, passes, between}
 use Rattle.rules.specs.Conditions.{lettersFormed, lettersIn, lawfulLetters}
 use Rattle.rules.specs.Line.{isPrintable, isShaped, isMarket, isPrice, isSecurityNumber, volumeIn, priceIn, decimalsIn, lettersField, daysIn, previousIn, previousDecimalsIn, formedBy, rangedBy, sideBy, matchedBy, alike, previousRanged, sideFormed, sideRanged, sideOf, sideMatched, firstSide, tradeFormed, tradeRanged, tradeOf}
+use Rattle.rules.specs.Sizes.{width}
 use Rattle.tradeline.specs.declared.TradeLine.{TradeLine}
 use Rattle.lettering.proofs.Letters.{lawful-none, lawful-one}
 use Rattle.tradeline.specs.TradeLine.{isGood, noLine, lineIn, tradeLine}
@@ -90,9 +91,9 @@ record ShortLine (line : List ℕ) : Type 0 where
   market : isMarket (column 6 line) ≡ true
   side : ShortSide (firstSide line) (volumeWorth line) (nWorth line) (dWorth line)
   lawful : lawfulLetters (lettersField (firstSide line)) ≡ true
-  rest : blank (columns 53 100 line) ≡ true
+  rest : blank (columns 53 width line) ≡ true
 
-module _ (line : List ℕ) (l : length line ≡ 100) (t : getD line 0 0 ≡ 84) (h : ShortLine line) where
+module _ (line : List ℕ) (l : length line ≡ width) (t : getD line 0 0 ≡ 84) (h : ShortLine line) where
   line-printable : all isPrintable line ≡ true
   line-printable =
       one-then isPrintable line 0 (omega arith) (ap isPrintable t ∙ printable-kind)
@@ -103,7 +104,7 @@ module _ (line : List ℕ) (l : length line ≡ 100) (t : getD line 0 0 ≡ 84) 
 
   line-shaped : isShaped line ≡ true
   unfolding isShaped
-  line-shaped = rw (eq-eqb (length line) 100 l, line-printable)
+  line-shaped = rw (eq-eqb (length line) width l, line-printable)
 
   line-formed : tradeFormed line ≡ true
   unfolding tradeFormed isNumber
@@ -246,7 +247,7 @@ module _ (line : List ℕ) (x : Letters) (p : TradeLine) (at : Placed line) (o :
     rest = rw (drop-drop 16 36 line) at (blank-part 48 16 64 (drop 36 line) (omega arith) (at .rest));
   }
 
-  quick-is : length line ≡ 100 → getD line 0 0 ≡ 84 → p ≡ tradeLine line
+  quick-is : length line ≡ width → getD line 0 0 ≡ 84 → p ≡ tradeLine line
   quick-is l t = v .is ∙ (ap (quickLine line) (ex ∙ ap lettersIn (sym letters-same)) ∙ line-read line l t short-line)
 
 -- one letter at most is lawful by itself
@@ -257,7 +258,7 @@ lawful-short field l h = go (eqb (getD field 0 0) 32) refl
     go true e = sym (lawful-none field (omega arith) (eqb-true (getD field 0 0) 32 e))
     go false e = sym (lawful-one field (omega arith) (eqb-false (getD field 0 0) 32 e) h)
 
-module _ (line : List ℕ) (l : length line ≡ 100) (b : Bool) (eb : b ≡ (eqb (getD (take 4 (drop 30 line)) 1 0) 32 && lettersFormed (take 4 (drop 30 line)))) (nb : not b ≡ false) where
+module _ (line : List ℕ) (l : length line ≡ width) (b : Bool) (eb : b ≡ (eqb (getD (take 4 (drop 30 line)) 1 0) 32 && lettersFormed (take 4 (drop 30 line)))) (nb : not b ≡ false) where
   field-length : length (take 4 (drop 30 line)) ≡ 4
   field-length = rw (length-take, length-drop) (omega arith)
 

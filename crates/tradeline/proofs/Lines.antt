@@ -12,6 +12,7 @@ use Rattle.text.proofs.Booleans.{and-false}
 use Rattle.rules.specs.declared.Trade.{Trade}
 use Rattle.rules.specs.Columns.{column}
 use Rattle.rules.specs.Line.{isPrintable, isShaped, tradeFormed, tradeRanged, tradeOf}
+use Rattle.rules.specs.Sizes.{width}
 use Rattle.dayline.specs.declared.TradeRead.{TradeRead}
 use Rattle.dayline.specs.Fields.{tradeRead}
 use Rattle.tradeline.specs.declared.TradeLine.{TradeLine}
@@ -28,9 +29,9 @@ module _ (line : List ℕ) (r : TradeLine) (e : r ≡ noLine) where
   unfolding isGood
   not-shaped h = not-good (rw h)
 
-  pub not-hundred : (length line ≡ 100 → ⊥) → r ≡ tradeLine line
+  pub not-hundred : (length line ≡ width → ⊥) → r ≡ tradeLine line
   unfolding isShaped
-  not-hundred h = not-shaped (rw (ne-eqb (length line) 100 h))
+  not-hundred h = not-shaped (rw (ne-eqb (length line) width h))
 
   pub not-trade : (getD line 0 0 ≡ 84 → ⊥) → r ≡ tradeLine line
   unfolding isGood
@@ -67,7 +68,7 @@ module _ (line : List ℕ) (r : TradeLine) (e : r ≡ noLine) where
 
 pub ruleset stopped = (not-hundred, not-trade, not-printable, not-formed, not-ranged, not-lawful, not-matched)
 
-pub all-passed : (line : List ℕ) (b : Bool) (t : TradeRead) → length line ≡ 100 → getD line 0 0 ≡ 84 → b ≡ all isPrintable line → not b ≡ false → t ≡ tradeRead line
+pub all-passed : (line : List ℕ) (b : Bool) (t : TradeRead) → length line ≡ width → getD line 0 0 ≡ 84 → b ≡ all isPrintable line → not b ≡ false → t ≡ tradeRead line
     → not (t .formed) ≡ false → not (t .ranged) ≡ false → not (t .trade .lawful) ≡ false → not (t .trade .matched) ≡ false
     → (record { good = true; security = t .trade .security; market = t .trade .market; volume = t .trade .side .volume; n = t .trade .side .price .n; d = t .trade .side .price .d; letters = t .trade .side .letters; days = t .trade .side .days; m = t .trade .side .previous .n; e = t .trade .side .previous .d }) ≡ tradeLine line
 unfolding tradeLine lineIn isGood isShaped tradeRead pick
@@ -76,7 +77,7 @@ all-passed line b t l k eb nb q nf nr nl nm =
     let r : tradeRanged line ≡ true = ap (λ x. x .ranged) (sym q) ∙ not-false _ nr in
     let w : (tradeOf line) .lawful ≡ true = ap (λ x. x .trade .lawful) (sym q) ∙ not-false _ nl in
     let m : (tradeOf line) .matched ≡ true = ap (λ x. x .trade .matched) (sym q) ∙ not-false _ nm in
-    rw (q, eq-eqb (length line) 100 l, ← eb, not-false b nb, eq-eqb (getD line 0 0) 84 k, f, r, w, m)
+    rw (q, eq-eqb (length line) width l, ← eb, not-false b nb, eq-eqb (getD line 0 0) 84 k, f, r, w, m)
 
 pub quick-good : (line : List ℕ) (r : TradeLine) → (r .good ≡ true → r ≡ tradeLine line) → r .good ≡ true → r ≡ tradeLine line
 quick-good line r h k = h k

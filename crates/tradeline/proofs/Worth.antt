@@ -11,6 +11,7 @@ use borrow.Author.Tests.{eq-eqb, eqb-true}
 use Rattle.text.specs.Pick.{pick}
 use Rattle.text.proofs.Texts.{and-left, and-right}
 use Rattle.rules.specs.Columns.{between}
+use Rattle.rules.specs.Sizes.{width}
 use Rattle.aligned.specs.Columns.{goesOn, stands, worthOf}
 
 -- behind a digit stands no blank
@@ -68,8 +69,8 @@ worth-behind line j i k m r h e q l w =
     let f : length (take m (drop j line)) ≡ m = length-take-le m (drop j line) (rw length-drop (omega arith)) in
     w ∙ sym (behind-blank i (take m (drop j line)) h g (omega arith) ∙ ap (worthOf 0) (rest-of (suc i) k m (drop j line) q ∙ ap (take k) (drop-drop (suc i) j line)))
 
-pub volume-behind : (line : List ℕ) (r : ℕ) → length line ≡ 100 → stands true (take 9 (drop 6 line)) ≡ true → getD line 8 0 ≡ 32 → r ≡ worthOf 0 (take 6 (drop 9 line)) → r ≡ worthOf 0 (take 9 (drop 6 line))
+pub volume-behind : (line : List ℕ) (r : ℕ) → length line ≡ width → stands true (take 9 (drop 6 line)) ≡ true → getD line 8 0 ≡ 32 → r ≡ worthOf 0 (take 6 (drop 9 line)) → r ≡ worthOf 0 (take 9 (drop 6 line))
 volume-behind line r l h e w = worth-behind line 6 2 6 9 r h e refl (omega arith) w
 
-pub n-behind : (line : List ℕ) (r : ℕ) → length line ≡ 100 → stands true (take 14 (drop 15 line)) ≡ true → getD line 20 0 ≡ 32 → r ≡ worthOf 0 (take 8 (drop 21 line)) → r ≡ worthOf 0 (take 14 (drop 15 line))
+pub n-behind : (line : List ℕ) (r : ℕ) → length line ≡ width → stands true (take 14 (drop 15 line)) ≡ true → getD line 20 0 ≡ 32 → r ≡ worthOf 0 (take 8 (drop 21 line)) → r ≡ worthOf 0 (take 14 (drop 15 line))
 n-behind line r l h e w = worth-behind line 15 5 8 14 r h e refl (omega arith) w

@@ -3,6 +3,7 @@ use Prim.Native.Nat.{ℕ, _-_, _≤_}
 use mathlib.Core.Path.{_≡_}
 use mathlib.Core.Bool.{true}
 use mathlib.Core.List.{List}
+use Rattle.rules.specs.Sizes.{width}
 use Rattle.rules.specs.declared.Number.the-variants.{Is}
 use Rattle.rules.specs.declared.Letters.{Letters}
 use Rattle.rules.specs.declared.Side.{Side}
@@ -17,7 +18,7 @@ pub record Placed (line : List ℕ) : Type 0 where
   pub volume : stands true (columns 7 15 line) ≡ true
   pub n : stands true (columns 16 29 line) ≡ true
   pub next : blank (columns 35 36 line) ≡ true
-  pub rest : blank (columns 37 100 line) ≡ true
+  pub rest : blank (columns 37 width line) ≡ true
 
 abbrev pub securityWorth : List ℕ → ℕ
 securityWorth line = worthOf 0 (columns 2 5 line)

@@ -1,9 +1,11 @@
 // A T line read by itself: all that can be said of it without the day's state.
 use rules::Letters;
+use rules::WIDTH;
 ghost use mathlib.Core.Path.{_≡_};
 ghost use mathlib.Core.Bool.{true, _&&_};
 ghost use lib.ListN.{length, getD};
 ghost use lib.Dec.{eqb};
+ghost use Rattle.rules.specs.Sizes.{width};
 ghost use Rattle.rules.specs.Conditions.{lettersFormed};
 ghost use Rattle.tradeline.specs.TradeLine.{noLine, tradeLine};
 ghost use Rattle.tradeline.specs.Quick.{Placed, volumeWorth, nWorth, QuickValues};
@@ -58,7 +60,7 @@ fn nothing() -> TradeLine
 
 // Most volumes have six digits at most: where column 9 is a blank, so are those before it.
 fn volume_in(line: &[u8]) -> u64
-    requires { ⌜ (length (now line) ≡ 100) × Placed (now line) ⌝ }
+    requires { ⌜ (length (now line) ≡ width) × Placed (now line) ⌝ }
     ensures { λ r. ⌜ r ≡ volumeWorth (now (line .entry)) ⌝ }
 {
     if line[8] == b' ' {
@@ -69,7 +71,7 @@ fn volume_in(line: &[u8]) -> u64
 
 // Most n have eight digits at most.
 fn n_in(line: &[u8]) -> u64
-    requires { ⌜ (length (now line) ≡ 100) × Placed (now line) ⌝ }
+    requires { ⌜ (length (now line) ≡ width) × Placed (now line) ⌝ }
     ensures { λ r. ⌜ r ≡ nWorth (now (line .entry)) ⌝ }
 {
     if line[20] == b' ' {
@@ -80,7 +82,7 @@ fn n_in(line: &[u8]) -> u64
 
 // Security, market, volume and price by what their columns are worth, each within its values.
 fn read_values(line: &[u8], letters: Letters) -> TradeLine
-    requires { ⌜ (length (now line) ≡ 100) × Placed (now line) ⌝ }
+    requires { ⌜ (length (now line) ≡ width) × Placed (now line) ⌝ }
     ensures { λ r. ⌜ (r .good ≡ true → QuickValues (now (line .entry)) letters r) ⌝ }
 {
     let c = line[29];
@@ -124,7 +126,7 @@ fn read_values(line: &[u8], letters: Letters) -> TradeLine
 // Security in columns 2 to 5, volume in 7 to 15, n in 16 to 29, each where it belongs; blanks from 35 on. Of the other columns
 // up to 33 the tables ask nothing that such a line does not have.
 fn is_placed(line: &[u8]) -> bool
-    requires { ⌜ length (now line) ≡ 100 ⌝ }
+    requires { ⌜ length (now line) ≡ width ⌝ }
     ensures { λ r. ⌜ (r ≡ true → Placed (now (line .entry))) ⌝ }
 {
     let front = b" ~~~~ ~~~~~~~~ ~~~~~~~~~~~~~~   ";
@@ -132,7 +134,7 @@ fn is_placed(line: &[u8]) -> bool
     if !aligned::is_formed(front, most, &line[0..33]) {
         return false;
     }
-    if !field::is_blank_part(&line[36..100]) {
+    if !field::is_blank_part(&line[36..WIDTH]) {
         return false;
     }
     field::is_blank_part(&line[34..36])
@@ -151,7 +153,7 @@ fn is_short(field: &[u8]) -> bool
 
 // One letter at most. Days and previous last are blank here: R and G, which ask for them, are left to `read_fields`.
 fn read_quick(line: &[u8]) -> TradeLine
-    requires { ⌜ (length (now line) ≡ 100) × (getD (now line) 0 0 ≡ 84) ⌝ }
+    requires { ⌜ (length (now line) ≡ width) × (getD (now line) 0 0 ≡ 84) ⌝ }
     ensures { λ r. ⌜ (r .good ≡ true → r ≡ tradeLine (now (line .entry))) ⌝ }
 {
     if !is_placed(line) {
@@ -174,7 +176,7 @@ fn read_quick(line: &[u8]) -> TradeLine
 
 // Field by field.
 fn read_fields(line: &[u8]) -> TradeLine
-    requires { ⌜ (length (now line) ≡ 100) × (getD (now line) 0 0 ≡ 84) ⌝ }
+    requires { ⌜ (length (now line) ≡ width) × (getD (now line) 0 0 ≡ 84) ⌝ }
     ensures { λ r. ⌜ r ≡ tradeLine (now (line .entry)) ⌝ }
 {
     if !field::is_printable_text(line) {
@@ -216,7 +218,7 @@ fn read_fields(line: &[u8]) -> TradeLine
 pub fn read_trade_line(line: &[u8]) -> TradeLine
     ensures { λ r. ⌜ r ≡ tradeLine (now (line .entry)) ⌝ }
 {
-    if line.len() != 100 {
+    if line.len() != WIDTH {
         return nothing();
     }
     if line[0] != b'T' {

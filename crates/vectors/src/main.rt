@@ -4,6 +4,10 @@
 use libc::STDOUT_FILENO;
 use lines::Fed;
 use showing::Shown;
+use table::NAMES_SIZE;
+use table::Names;
+use table::TABLE_SIZE;
+use table::Table;
 ghost use mathlib.Core.Path.{_≡_};
 ghost use Prim.Native.Nat.{_≤_, _<_};
 ghost use lib.ListN.{length, take};
@@ -40,8 +44,8 @@ fn closed(block: &mut [u8; 65536], n: usize) -> usize
 
 // The day's lines go to the engine from a fresh state; the first has number 1.
 fn take_day(
-    table: &mut [u64; 5632],
-    names: &mut [u8; 9728],
+    table: &mut Table,
+    names: &mut Names,
     day: &[u8],
     tape: &mut [u8],
     refusals: &mut [u8],
@@ -67,8 +71,8 @@ fn write_out(tape: &[u8], n: usize, refusals: &[u8], k: usize) -> bool
 
 // Takes the day that the block's first n bytes are, and writes what comes out.
 fn show_day(
-    table: &mut [u64; 5632],
-    names: &mut [u8; 9728],
+    table: &mut Table,
+    names: &mut Names,
     block: &[u8],
     n: usize,
     tape: &mut [u8],
@@ -81,12 +85,7 @@ fn show_day(
 }
 
 // The lines of the day's shown facts, from a fresh state.
-fn take_facts(
-    table: &mut [u64; 5632],
-    names: &mut [u8; 9728],
-    day: &[u8],
-    facts: &mut [u8],
-) -> Shown
+fn take_facts(table: &mut Table, names: &mut Names, day: &[u8], facts: &mut [u8]) -> Shown
     ensures { λ r. ⌜ shows.Stands (now (facts .entry)) (shows.blockShown (length (now (facts .entry))) (now (day .entry)) (shows.started (opened 0) (now (table .entry)) (now (names .entry)))) (now (table .exit)) (now (names .exit)) (now (facts .exit)) r ⌝ }
 {
     let settings = engine::fresh();
@@ -95,8 +94,8 @@ fn take_facts(
 
 // Writes them, of the day that the block's first n bytes are.
 fn show_facts(
-    table: &mut [u64; 5632],
-    names: &mut [u8; 9728],
+    table: &mut Table,
+    names: &mut Names,
     block: &[u8],
     n: usize,
     facts: &mut [u8],
@@ -124,8 +123,8 @@ fn read_day(path: &[u8], block: &mut [u8; 65536]) -> usize
 // Reads a day file and shows its day; answers false where it cannot be opened or what comes out cannot be written.
 fn run_file(
     path: &[u8],
-    table: &mut [u64; 5632],
-    names: &mut [u8; 9728],
+    table: &mut Table,
+    names: &mut Names,
     block: &mut [u8; 65536],
     tape: &mut [u8; 65536],
     refusals: &mut [u8; 65536],
@@ -140,8 +139,8 @@ fn run_file(
 // The same of its shown facts.
 fn run_facts(
     path: &[u8],
-    table: &mut [u64; 5632],
-    names: &mut [u8; 9728],
+    table: &mut Table,
+    names: &mut Names,
     block: &mut [u8; 65536],
     facts: &mut [u8; 65536],
 ) -> bool {
@@ -154,8 +153,8 @@ fn run_facts(
 
 // Days 01 to 16, up to the first that fails.
 fn run_numbered(
-    table: &mut [u64; 5632],
-    names: &mut [u8; 9728],
+    table: &mut Table,
+    names: &mut Names,
     block: &mut [u8; 65536],
     tape: &mut [u8; 65536],
     refusals: &mut [u8; 65536],
@@ -175,8 +174,8 @@ fn run_numbered(
 }
 
 fn main() {
-    let mut table = [0u64; 5632];
-    let mut names = [0u8; 9728];
+    let mut table = [0u64; TABLE_SIZE];
+    let mut names = [0u8; NAMES_SIZE];
     let mut block = [0u8; 65536];
     let mut tape = [0u8; 65536];
     let mut refusals = [0u8; 65536];

@@ -25,11 +25,12 @@ use Rattle.rules.specs.Line as rules·Line
 use Rattle.rules.specs.Refusal as rules·Refusal
 use Rattle.rules.specs.Day as rules·Day
 use Rattle.rules.specs.Shown as rules·Shown
+use Rattle.rules.specs.Sizes.{width}
 use Rattle.wholeday.specs.Decodes.{tape}
 
 -- a line with its trailing blanks drawn
 abbrev padded : String → Call
-padded s = record { line = bytes s ++ replicate (100 - length (bytes s)) 32; room = 197 }
+padded s = record { line = bytes s ++ replicate (width - length (bytes s)) 32; room = 197 }
 
 -- a security that printed 45.69 in normal mode, then DVD, then one trade
 abbrev dayOf : String → List Call

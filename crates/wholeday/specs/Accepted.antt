@@ -3,6 +3,7 @@ use Prim.Native.Nat.{ℕ, _≤_, _<_}
 use mathlib.Core.Path.{_≡_}
 use mathlib.Core.Bool.{true, false}
 use mathlib.Core.List.{List}
+use Rattle.rules.specs.Sizes.{securityPlaces}
 use Rattle.rules.specs.Day.{Day, securityAt, isEntered, takenName}
 use Rattle.rules.specs.declared.Listing.{Listing}
 use Rattle.rules.specs.declared.Trade.{Trade}
@@ -14,7 +15,7 @@ use Rattle.decoder.specs.Lawful.{LawfulSide}
 
 pub record AcceptedListing (day : Day) (name : List ℕ) (l : Listing) : Type 0 where
   pub low : 1 ≤ l .number
-  pub high : l .number ≤ 512
+  pub high : l .number ≤ securityPlaces
   pub unit-is : 1 ≤ l .unit
   pub plain : NamePlain (l .network) name
   pub vacant-place : isEntered (securityAt day (l .number)) ≡ false
@@ -22,13 +23,13 @@ pub record AcceptedListing (day : Day) (name : List ℕ) (l : Listing) : Type 0 
 
 pub record AcceptedTrade (day : Day) (t : Trade) : Type 0 where
   pub low : 1 ≤ t .security
-  pub high : t .security ≤ 512
+  pub high : t .security ≤ securityPlaces
   pub entered-there : isEntered (securityAt day (t .security)) ≡ true
   pub side-is : LawfulSide (t .side)
 
 pub record AcceptedCorrection (day : Day) (c : Correction) : Type 0 where
   pub low : 1 ≤ c .security
-  pub high : c .security ≤ 512
+  pub high : c .security ≤ securityPlaces
   pub entered-there : isEntered (securityAt day (c .security)) ≡ true
   pub original-is : LawfulSide (c .original)
   pub correcting-is : LawfulSide (c .correcting)

@@ -4,6 +4,7 @@ use mathlib.Core.Path.{_≡_}
 use mathlib.Core.Bool.{true, false}
 use mathlib.Core.List.{List}
 use lib.ListN.{length, getD}
+use Rattle.rules.specs.Sizes.{securityPlaces}
 use Rattle.rules.specs.Names.{sameName}
 use Rattle.rules.specs.Day.{Day, vacant, noName, isEntered}
 use Rattle.rules.specs.declared.Security.{Security}
@@ -18,14 +19,14 @@ named day i = getD (day .names) i noName
 
 -- 512 places, each with a lawful name or none, and no name twice
 pub record Invariant (day : Day) : Type 0 where
-  pub places : length (day .securities) ≡ 512
-  pub lines : length (day .names) ≡ 512
-  pub no-name : (i : ℕ) → i < 512 → isEntered (atPlace day i) ≡ false → named day i ≡ noName
-  pub plain-name : (i : ℕ) → i < 512 → isEntered (atPlace day i) ≡ true → NamePlain (atPlace day i .network) (named day i)
-  pub distinct : (i j : ℕ) → i < 512 → j < 512 → (i ≡ j → ⊥) → isEntered (atPlace day i) ≡ true → isEntered (atPlace day j) ≡ true → sameName (named day i) (named day j) ≡ false
+  pub places : length (day .securities) ≡ securityPlaces
+  pub lines : length (day .names) ≡ securityPlaces
+  pub no-name : (i : ℕ) → i < securityPlaces → isEntered (atPlace day i) ≡ false → named day i ≡ noName
+  pub plain-name : (i : ℕ) → i < securityPlaces → isEntered (atPlace day i) ≡ true → NamePlain (atPlace day i .network) (named day i)
+  pub distinct : (i j : ℕ) → i < securityPlaces → j < securityPlaces → (i ≡ j → ⊥) → isEntered (atPlace day i) ≡ true → isEntered (atPlace day j) ≡ true → sameName (named day i) (named day j) ≡ false
 
 -- the second day has every security of the first, under the same name and network
 pub record Later (day e : Day) : Type 0 where
-  pub stays : (i : ℕ) → i < 512 → isEntered (atPlace day i) ≡ true → isEntered (atPlace e i) ≡ true
-  pub same-network : (i : ℕ) → i < 512 → isEntered (atPlace day i) ≡ true → atPlace e i .network ≡ atPlace day i .network
-  pub same-name : (i : ℕ) → i < 512 → isEntered (atPlace day i) ≡ true → named e i ≡ named day i
+  pub stays : (i : ℕ) → i < securityPlaces → isEntered (atPlace day i) ≡ true → isEntered (atPlace e i) ≡ true
+  pub same-network : (i : ℕ) → i < securityPlaces → isEntered (atPlace day i) ≡ true → atPlace e i .network ≡ atPlace day i .network
+  pub same-name : (i : ℕ) → i < securityPlaces → isEntered (atPlace day i) ≡ true → named e i ≡ named day i

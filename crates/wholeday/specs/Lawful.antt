@@ -3,6 +3,7 @@ use Prim.Native.Nat.{ℕ, _≤_, _<_}
 use mathlib.Core.Path.{_≡_}
 use mathlib.Core.Bool.{Bool, true, false}
 use mathlib.Core.List.{List}
+use Rattle.rules.specs.Sizes.{securityPlaces}
 use Rattle.rules.specs.Columns.{isRoot}
 use Rattle.rules.specs.Names.{rootField, lawfulName}
 use Rattle.rules.specs.declared.Listing.{Listing}
@@ -15,18 +16,18 @@ use Rattle.decoder.specs.Lawful.{LawfulSide}
 
 pub record LawfulListing (name : List ℕ) (l : Listing) : Type 0 where
   pub low : 1 ≤ l .number
-  pub high : l .number ≤ 512
+  pub high : l .number ≤ securityPlaces
   pub unit-is : 1 ≤ l .unit
   pub plain : l .lawful ≡ true → NamePlain (l .network) name
 
 pub record LawfulTrade (t : Trade) : Type 0 where
   pub low : 1 ≤ t .security
-  pub high : t .security ≤ 512
+  pub high : t .security ≤ securityPlaces
   pub side-is : t .lawful ≡ true → t .matched ≡ true → LawfulSide (t .side)
 
 pub record LawfulCorrection (c : Correction) : Type 0 where
   pub low : 1 ≤ c .security
-  pub high : c .security ≤ 512
+  pub high : c .security ≤ securityPlaces
   pub original-is : c .lawful ≡ true → c .matched ≡ true → LawfulSide (c .original)
   pub correcting-is : c .lawful ≡ true → c .matched ≡ true → LawfulSide (c .correcting)
 

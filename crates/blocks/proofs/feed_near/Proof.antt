@@ -3,6 +3,7 @@ use Prim.Native.Nat.{_+_, _-_, _≤_}
 use native.Mathlib.Omega.{arith}
 use mathlib.Core.Path.{_≡_, refl}
 use mathlib.Core.Logic.{⊎-elim}
+use Rattle.rules.specs.Sizes.{width}
 use Rattle.blocks.specs.Lines.{lineEnd}
 use Rattle.blocks.proofs.Scan.{near-start, near-seen, near-on, near-all}
 use borrow.Author.Needs.{needs}
@@ -10,10 +11,10 @@ use Rattle.blocks.proofs.feed_near.Statement.{statement}
 use Rattle.blocks.proofs.feed_near.Tie as tie
 
 abbrev Inv-loop : tie.InvT-loop
-Inv-loop block from near₀ i₀ near i = (i ≤ 100) × (near ≡ 0 → lineEnd block (from + i) ≡ lineEnd block from)
+Inv-loop block from near₀ i₀ near i = (i ≤ width) × (near ≡ 0 → lineEnd block (from + i) ≡ lineEnd block from)
 
 abbrev μ-loop : tie.MeasureT-loop
-μ-loop block from near₀ i₀ near i = 100 - i
+μ-loop block from near₀ i₀ near i = width - i
 
 loop-holds : tie.Need-loop-holds Inv-loop μ-loop
 loop-holds c = (omega arith, search near-start)
