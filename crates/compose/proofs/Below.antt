@@ -12,8 +12,8 @@ use Rattle.rules.specs.Names.{rootField}
 use Rattle.rules.specs.Line.{volumeIn, alike, nameColumns, isUnit}
 use Rattle.rules.specs.declared.Number.{Number}
 use Rattle.rules.specs.declared.Number.the-variants.{Blank, Bad, Is}
+use Rattle.text.proofs.Booleans.{false-true}
 use Rattle.widths.proofs.Below.{number-below}
-use Rattle.named.proofs.Root.{false-true}
 
 pub volume-below : (side : List ℕ) → valueOf (volumeIn side) < 1000000000
 volume-below side = number-below 9 (columns 1 9 side) (omega (arith, length-take 9 side))

@@ -20,7 +20,7 @@ use Rattle.rules.specs.declared.Listing.{Listing}
 use Rattle.rules.specs.declared.Line.the-variants.{Listed}
 use Rattle.rules.specs.declared.Refusal.{Refusal}
 use Rattle.rules.specs.Sizes.{width}
-use Rattle.named.proofs.Root.{false-true}
+use Rattle.text.proofs.Booleans.{false-true}
 use Rattle.compose.specs.Columns.{digitsBefore, numberField, later, textField, blanks}
 use Rattle.compose.specs.Lines.{listingLine}
 use Rattle.compose.specs.Shown.{Enterable}

@@ -13,7 +13,7 @@ use Rattle.text.specs.Bytes.{bytes}
 use Rattle.text.specs.Pick.{pick, opt, all, same, among, member}
 use Rattle.text.specs.Reading.{before, heads, isDigit, starts, past, dotDigit}
 use Rattle.text.proofs.Texts.{and-left, and-right, same-true}
-use Rattle.text.proofs.Booleans.{neither, and-both}
+use Rattle.text.proofs.Booleans.{neither, and-both, false-true, or-cases}
 use Rattle.text.proofs.Parts.{span-short}
 use Rattle.rules.specs.Tape.{isLetter, isUpper, isRaised}
 use Rattle.rules.specs.Columns.{word, notBlank}
@@ -26,7 +26,7 @@ use Rattle.volumes.specs.Reading.{markAt}
 use Rattle.conditions.proofs.TailBack.{Ends}
 use Rattle.trade.proofs.SideBack.{side-lower}
 use Rattle.named.specs.Plain.{NamePlain}
-use Rattle.named.proofs.Root.{false-true, either, root-text}
+use Rattle.named.proofs.Root.{root-text}
 use Rattle.named.proofs.Parts.{each, member-each, suffix-case, field-case}
 
 pub record Fresh (s : List ℕ) : Type 0 where
@@ -128,7 +128,7 @@ appendage-mild network field h = field-case mild-part (isAppendage network) refl
     one s m =
         ⊎-elim (λ e. rw (same-true s (bytes "BC") (and-left (same s (bytes "BC")) (eqb network 65) e)))
         (λ e. rw (same-true s (bytes "DL") (and-left (same s (bytes "DL")) (eqb network 66) e)))
-        (either (same s (bytes "BC") && eqb network 65) (same s (bytes "DL") && eqb network 66) m)
+        (or-cases (same s (bytes "BC") && eqb network 65) (same s (bytes "DL") && eqb network 66) m)
 
 conditions-mild : (x : Letters) → mild (afterName x) ≡ true
 unfolding afterName mild nonempty isLetter

@@ -11,13 +11,12 @@ use borrow.Author.Tests.{not-true}
 use Rattle.text.specs.Pick.{pick, opt, same, among}
 use Rattle.text.specs.Reading.{heads, span}
 use Rattle.text.proofs.Texts.{same-true, same-refl}
-use Rattle.text.proofs.Booleans.{neither, or-first, or-second}
+use Rattle.text.proofs.Booleans.{neither, or-first, or-second, false-true}
 use Rattle.rules.specs.Tape.{isLetter, isRaised}
 use Rattle.rules.specs.Columns.{isBlank, word}
 use Rattle.rules.specs.Names.{partText, nameText, hasTemporary, sameName, temporaryField}
 use Rattle.rules.specs.Day.{noName}
 use Rattle.symbol.proofs.Text.{name-sum}
-use Rattle.named.proofs.Root.{false-true}
 use Rattle.decoder.specs.Decode.{Names, isNameOf, numberFrom, nameIn, showsSuffix}
 
 -- ---- the same text

@@ -11,7 +11,7 @@ use mathlib.Core.Option.{none, some}
 use lib.Dec.{leb, eqb}
 use borrow.Author.Tests.{leb-false, eqb-true, eqb-false, le-leb, not-false}
 use Rattle.text.specs.Pick.{pick, same}
-use Rattle.text.proofs.Booleans.{or-left, or-right}
+use Rattle.text.proofs.Booleans.{or-left, or-right, false-true}
 use Rattle.rules.specs.Columns.{between}
 use Rattle.rules.specs.Price.{wholePart, fraction, units}
 use Rattle.rules.specs.Volume.{volumeText, fullVolume}
@@ -29,7 +29,6 @@ use Rattle.prices.specs.Reading.{shownPrice}
 use Rattle.prices.proofs.PriceBack.{full-price}
 use Rattle.conditions.specs.Reading.{if-there, tailOf}
 use Rattle.named.specs.Cut.{plain, opened, sold, last, soldOf, afterOf, oneSold}
-use Rattle.named.proofs.Root.{false-true}
 use Rattle.decoder.specs.Decode.{given, valueIn, isOpened, isSold, isLast, conditionsBy, priceBy, volumeBy}
 use Rattle.decoder.specs.Lawful.{LawfulSide}
 

@@ -24,6 +24,7 @@ use Rattle.rules.specs.declared.Mode.{Mode}
 use Rattle.rules.specs.declared.Mode.the-variants.{Normal, Dvd, Rpo, Mpv}
 use Rattle.rules.specs.declared.Letters.{Letters}
 use Rattle.rules.specs.declared.Side.{Side}
+use Rattle.text.proofs.Booleans.{false-true}
 use Rattle.volumes.specs.Reading.{unsaid, sharesOf, shownOf}
 use Rattle.volumes.proofs.VolumeBack.{shares-back}
 use Rattle.prices.specs.Reading.{shownPrice}
@@ -36,7 +37,6 @@ use Rattle.announcement.specs.Reading.{readAnnouncement}
 use Rattle.announcement.proofs.Back.{told, mode-back, minimum-back, level-back}
 use Rattle.named.specs.Plain.{NamePlain}
 use Rattle.named.specs.Cut.{plain, opened, sold, last, After, after, soldOf, afterOf, divide}
-use Rattle.named.proofs.Root.{false-true}
 use Rattle.named.proofs.Back.{conditions-upper, name-upper, name-head, name-back}
 use Rattle.decoder.specs.Carried.{Carried}
 use Rattle.decoder.specs.Decode.{Names, isNameOf, nameIn, priceBy, volumeBy, partBy, there, toldText, announcementBy, headedBy, headOf, tradeBy, ended, cancelBy, afterBy, correctionBy, decodeCorrection, decodeCancel, decodeTrade, decode}

@@ -17,7 +17,7 @@ use Rattle.rules.specs.Tape.{isLetter, isUpper, isRaised}
 use Rattle.rules.specs.Columns.{between}
 use Rattle.rules.specs.Names.{isSuffix, isReserved, listedSuffixes}
 use Rattle.rules.specs.declared.Letters.{Letters}
-use Rattle.named.proofs.Root.{false-true, either}
+use Rattle.text.proofs.Booleans.{false-true, or-cases}
 use Rattle.named.proofs.Parts.{each, member-each, classEnds, suffix-case}
 use Rattle.heading.specs.Name.{countOf, endsIn, suffixText, withEnd, plainEnd, endsLawfully, lawfulRoot, appendageOf, nameOn}
 use Rattle.heading.specs.Head.{afterIn, nameCount, namedBy, inRun, headAt, againBy, againIn, againAt}
@@ -64,19 +64,19 @@ temporary-most s h =
     (λ h₂. ⊎-elim (λ a. with-most (bytes ".XDIS") s (omega arith) a)
     (λ h₃. ⊎-elim (λ a. with-most (bytes ".Xr") s (omega arith) a)
     (λ h₄. ⊎-elim (λ a. with-most (bytes ".N") s (omega arith) a) (λ a. with-most (bytes ".XI") s (omega arith) a)
-    (either (withEnd (bytes ".N") s) (withEnd (bytes ".XI") s) h₄))
-    (either (withEnd (bytes ".Xr") s) _ h₃))
-    (either (withEnd (bytes ".XDIS") s) _ h₂))
-    (either (withEnd (bytes ".XD") s) _ h)
+    (or-cases (withEnd (bytes ".N") s) (withEnd (bytes ".XI") s) h₄))
+    (or-cases (withEnd (bytes ".Xr") s) _ h₃))
+    (or-cases (withEnd (bytes ".XDIS") s) _ h₂))
+    (or-cases (withEnd (bytes ".XD") s) _ h)
 
 plain-most : (t : Bool) (s : List ℕ) → plainEnd t s ≡ true → length s ≤ 12
 unfolding plainEnd
 plain-most t s h =
-    ⊎-elim (λ a. let n = text-most s a in omega arith) (λ k. temporary-most s (and-right t _ k)) (either (suffixText s) _ h)
+    ⊎-elim (λ a. let n = text-most s a in omega arith) (λ k. temporary-most s (and-right t _ k)) (or-cases (suffixText s) _ h)
 
 ends-most : (t : Bool) (e s : List ℕ) → length e ≤ 3 → endsLawfully t e s ≡ true → length s ≤ 15
 unfolding endsLawfully
-ends-most t e s l h = ⊎-elim (λ a. let n = plain-most t s a in omega arith) (λ k. more k) (either (plainEnd t s) _ h)
+ends-most t e s l h = ⊎-elim (λ a. let n = plain-most t s a in omega arith) (λ k. more k) (or-cases (plainEnd t s) _ h)
   where
     more : (endsIn e s && plainEnd t (take (length s - length e) s)) ≡ true → length s ≤ 15
     more k =

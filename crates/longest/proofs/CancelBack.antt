@@ -7,7 +7,7 @@ use mathlib.Core.Bool.{Bool, true, false, _&&_, _||_, not}
 use mathlib.Core.List.{List, [], _∷_, _++_, append-assoc}
 use lib.Dec.{eqb, leb}
 use lib.ListN.{length, take, drop, length-append}
-use lib.Seq.{drop-drop}
+use lib.Seq.{drop-drop, drop-append-seam, take-append-seam}
 use Rattle.text.proofs.Tests.{is-ne}
 use borrow.Author.Tests.{eqb-true, leb-true}
 use Rattle.text.specs.Pick.{pick, opt, among}
@@ -24,13 +24,11 @@ use Rattle.rules.specs.Line.{isNetwork}
 use Rattle.rules.specs.declared.Letters.{Letters}
 use Rattle.rules.specs.declared.Side.{Side}
 use Rattle.trade.proofs.SideBack.{side-lower}
-use Rattle.named.proofs.Root.{false-true, either}
 use Rattle.compose.specs.Shown.{Enterable, Showable}
 use Rattle.heading.specs.Name.{nameOn}
 use Rattle.heading.specs.Head.{lettersAfter, headAt}
 use Rattle.heading.specs.declared.NameAnswer.{NameAnswer}
 use Rattle.heading.specs.declared.NameAnswer.the-variants.{Named, NoName}
-use Rattle.nameable.proofs.Counts.{drop-front}
 use Rattle.nameable.proofs.Lawful.{name-lawful}
 use Rattle.nameable.proofs.Head.{headRead, head-found}
 use Rattle.sideread.specs.declared.Beside.the-variants.{Alone, With}
@@ -45,12 +43,12 @@ use Rattle.text.specs.Bytes.{bytes}
 use Rattle.text.specs.Reading.{starts, isDigit, dotDigit}
 use Rattle.text.proofs.Reading.{starts-append}
 use Rattle.rules.specs.Correction.{endPair, cancelText}
+use Rattle.text.proofs.Booleans.{false-true, or-cases}
 use Rattle.volumescan.specs.Volume.{explains}
 use Rattle.sideread.specs.Side.{beside}
 use Rattle.tails.specs.declared.Taken.{Taken}
 use Rattle.reader.specs.declared.ReadAnswer.{ReadAnswer}
 use Rattle.reader.specs.Read.{endAt, amended, endedBy, cancelSide, cancelHead, cancelAt}
-use Rattle.nameable.proofs.Counts.{take-front}
 use Rattle.longest.proofs.Figures.{unmarked-pair}
 use Rattle.longest.proofs.TailExact.{lettersBefore, ended-pair, TailEnd, ended, more}
 use Rattle.longest.proofs.SideExact.{Closes, SideEnds, side-ends}
@@ -127,10 +125,10 @@ module _ (error : Bool) (opening : List ℕ) (six : length opening ≡ 6) (netwo
   tape = opening ++ (head ++ rest)
 
   behind : drop 6 tape ≡ head ++ rest
-  behind = ap (λ n. drop n tape) (sym six) ∙ drop-front opening (head ++ rest)
+  behind = ap (λ n. drop n tape) (sym six) ∙ drop-append-seam opening (head ++ rest)
 
   further : drop (6 + length head) tape ≡ rest
-  further = sym (drop-drop (length head) 6 tape) ∙ ap (drop (length head)) behind ∙ drop-front head rest
+  further = sym (drop-drop (length head) 6 tape) ∙ ap (drop (length head)) behind ∙ drop-append-seam head rest
 
   abbrev size-of : ℕ
   size-of = length (volumeText network unit (x .volume)) + (length (priceText true (x .price)) + length (tailText x))
@@ -142,7 +140,7 @@ module _ (error : Bool) (opening : List ℕ) (six : length opening ≡ 6) (netwo
       let r = endPair x ++ R in
       let k : v ++ (p ++ (tailText x ++ r)) ≡ (v ++ (p ++ tailText x)) ++ r = simp append-assoc in
       let l : size-of ≡ length (v ++ (p ++ tailText x)) = omega (length-append v (p ++ tailText x), length-append p (tailText x), arith) in
-      sym (drop-drop size-of (6 + length head) tape) ∙ ap (drop size-of) further ∙ ap (λ n. drop n rest) l ∙ ap (drop (length (v ++ (p ++ tailText x)))) k ∙ drop-front (v ++ (p ++ tailText x)) r
+      sym (drop-drop size-of (6 + length head) tape) ∙ ap (drop size-of) further ∙ ap (λ n. drop n rest) l ∙ ap (drop (length (v ++ (p ++ tailText x)))) k ∙ drop-append-seam (v ++ (p ++ tailText x)) r
 
   sided : SideEnds (sideAt Alone (lettersAfter (x .letters .m) (x .letters .o) (x .letters .s) (x .letters .l)) (nameOn false 65 (nameText false name)) (nameOn false 66 (nameText false name)) rest) network unit size-of x (endPair x ++ R)
   unfolding beside

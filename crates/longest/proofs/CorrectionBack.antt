@@ -7,6 +7,7 @@ use mathlib.Core.Bool.{Bool, true, false, _||_, not}
 use mathlib.Core.List.{List, [], _++_, append-assoc}
 use lib.Dec.{eqb, leb}
 use lib.ListN.{length, take, drop, length-append}
+use lib.Seq.{drop-append-seam, take-append-seam}
 use Rattle.text.proofs.Tests.{is-ne}
 use borrow.Author.Tests.{eqb-true}
 use Rattle.text.specs.Pick.{pick, opt, among}
@@ -21,12 +22,10 @@ use Rattle.rules.specs.Line.{isNetwork}
 use Rattle.rules.specs.declared.Letters.{Letters}
 use Rattle.rules.specs.declared.Side.{Side}
 use Rattle.trade.proofs.SideBack.{side-lower}
-use Rattle.named.proofs.Root.{false-true, either}
 use Rattle.compose.specs.Shown.{Enterable, Showable}
 use Rattle.heading.specs.Name.{nameOn}
 use Rattle.heading.specs.Head.{lettersAfter, headAt}
 use Rattle.heading.specs.declared.NameAnswer.the-variants.{Named}
-use Rattle.nameable.proofs.Counts.{drop-front}
 use Rattle.nameable.proofs.Lawful.{name-lawful}
 use Rattle.nameable.proofs.Head.{headRead, head-found}
 use Rattle.sideread.specs.declared.Beside.the-variants.{Alone, With}
@@ -40,7 +39,6 @@ use Rattle.volumescan.specs.Volume.{explains}
 use Rattle.sideread.specs.Side.{beside}
 use Rattle.tails.specs.declared.Taken.{Taken}
 use Rattle.reader.specs.Read.{endAt}
-use Rattle.nameable.proofs.Counts.{take-front}
 use Rattle.longest.proofs.TailExact.{lettersBefore, TailEnd, ended, more}
 use Rattle.longest.proofs.SideExact.{Closes, SideEnds, side-ends}
 use Rattle.longest.proofs.TradeBack.{flag-there, volume-in}
@@ -48,7 +46,7 @@ use Rattle.text.specs.Pick.{all}
 use Rattle.rules.specs.Correction.{repeatsName, correctionText}
 use Rattle.rules.specs.Line.{alike}
 use Rattle.text.proofs.Tests.{is-le}
-use Rattle.text.proofs.Booleans.{neither}
+use Rattle.text.proofs.Booleans.{neither, false-true, or-cases}
 use Rattle.named.specs.Cut.{oneSold}
 use Rattle.heading.specs.Head.{againAt}
 use Rattle.heading.specs.declared.AgainRead.{AgainRead}
@@ -113,8 +111,8 @@ flag-kept : (network : ℕ) (x : Side) → Showable network x → isNetwork netw
 unfolding isNetwork among
 flag-kept network x h n a b f =
     ⊎-elim (λ q. kept-a network x h a b (eqb-true network 65 q) f)
-    (λ q. ⊎-elim (λ r. kept-b network x h a b (eqb-true network 66 r) f) (λ r. absurd (false-true r)) (either (eqb network 66) false q))
-    (either (eqb network 65) (eqb network 66 || false) n)
+    (λ q. ⊎-elim (λ r. kept-b network x h a b (eqb-true network 66 r) f) (λ r. absurd (false-true r)) (or-cases (eqb network 66) false q))
+    (or-cases (eqb network 65) (eqb network 66 || false) n)
 
 exactly : (got : SideRead) (network : ℕ) (size : ℕ) (x : Side) (R : List ℕ) (a b : Bool) (y : Letters) → Showable network x → isNetwork network ≡ true → flagOf network a b ≡ true → TailEnd (got .taken) size y a (pick (x .letters .j) false b) (x .letters .g) (bytes "WAS." ++ R) → Exactly got network size
 exactly got network size x R a b y h n f (ended u l p q) = record { used-is = u; flag-left = ap (λ z. flagOf network z (got .taken .b)) p ∙ ap (flagOf network (pick (x .letters .g) false a)) q ∙ flag-kept network x h n a b f }
@@ -255,7 +253,7 @@ module _ (network unit : ℕ) (name : List ℕ) (x y : Side) (e : Enterable netw
   lower = side-lower network unit (x .volume) true true (x .price) (tailText x ++ (bytes "WAS." ++ rest₂)) (some-price (x .price) (h .price-fits))
 
   at7 : drop 7 tape ≡ head ++ rest
-  at7 = drop-front (bytes "<<CORR.") (head ++ rest)
+  at7 = drop-append-seam (bytes "<<CORR.") (head ++ rest)
 
   at-side : drop (7 + length head) tape ≡ rest
   at-side = dropped-all tape head rest 7 at7
@@ -273,7 +271,7 @@ module _ (network unit : ℕ) (name : List ℕ) (x y : Side) (e : Enterable netw
   at-end = past-side tape (7 + length head + size + 4 + length head₂) (volumeText network unit (y .volume)) (priceText true (y .price)) (tailText y) (endPair y ++ R) at-second
 
   named : take (length text) (drop 7 tape) ≡ text
-  named = ap (take (length text)) (at7 ∙ append-assoc text (afterName (x .letters)) rest) ∙ take-front text (afterName (x .letters) ++ rest)
+  named = ap (take (length text)) (at7 ∙ append-assoc text (afterName (x .letters)) rest) ∙ take-append-seam text (afterName (x .letters) ++ rest)
 
   headed : headAt false (head ++ rest) ≡ Named (headRead false text (x .letters))
   headed = head-found false network name (e .on) (e .plain) (x .letters) (shown-n network x h) (shown-sold network x h) rest lower

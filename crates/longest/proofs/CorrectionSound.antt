@@ -11,7 +11,6 @@ use Rattle.text.specs.Bytes.{bytes}
 use Rattle.text.specs.Pick.{pick, opt, among}
 use Rattle.rules.specs.Conditions.{onNetwork}
 use Rattle.rules.specs.Line.{isNetwork}
-use Rattle.named.proofs.Root.{false-true, either}
 use Rattle.compose.specs.Shown.{Showable}
 use Rattle.volumescan.specs.Volume.{explains}
 use Rattle.sideread.specs.declared.Beside.the-variants.{Alone, With}
@@ -33,6 +32,7 @@ use Rattle.longest.proofs.Side.{Unit, Headed, SideTold, side-told, two-
 use Rattle.longest.proofs.Shows.{Explains, explains-side}
 use Rattle.rules.specs.Correction.{repeatsName, correctionText}
 use Rattle.rules.specs.Line.{alike}
+use Rattle.text.proofs.Booleans.{false-true, or-cases}
 use Rattle.heading.specs.Head.{againAt}
 use Rattle.heading.specs.declared.AgainRead.{AgainRead}
 use Rattle.heading.specs.declared.AgainAnswer.the-variants.{Again}
@@ -50,8 +50,8 @@ which : (network : ℕ) → isNetwork network ≡ true → (network ≡ 65) ⊎ 
 unfolding isNetwork among
 which network n =
     ⊎-elim (λ q. inl (eqb-true network 65 q))
-    (λ q. ⊎-elim (λ r. inr (eqb-true network 66 r)) (λ r. absurd (false-true r)) (either (eqb network 66) false q))
-    (either (eqb network 65) (eqb network 66 || false) n)
+    (λ q. ⊎-elim (λ r. inr (eqb-true network 66 r)) (λ r. absurd (false-true r)) (or-cases (eqb network 66) false q))
+    (or-cases (eqb network 65) (eqb network 66 || false) n)
 
 module _ (s : List ℕ) (opens : starts (bytes "<<CORR.") s ≡ true) (h : NameRead) (k : HeadTold false (drop 7 s) h)
     (x : SideRead) (e : sideAt Alone (h .letters) (h .a) (h .b) (drop (7 + h .used) s) ≡ Sided x)

@@ -5,7 +5,7 @@ use mathlib.Core.Path.{_≡_, refl, sym, ap, _∙_}
 use mathlib.Core.Bool.{Bool, true, false, _||_, not}
 use mathlib.Core.List.{List, [], _∷_, _++_, append-assoc}
 use lib.Dec.{eqb, ltb}
-use lib.ListN.{length, drop, length-append, length-take}
+use lib.ListN.{length, drop, length-append, length-take, take-append-drop}
 use borrow.Author.Tests.{not-true}
 use Rattle.text.specs.Bytes.{bytes}
 use Rattle.text.specs.Pick.{pick, opt, all}
@@ -15,12 +15,11 @@ use Rattle.text.proofs.Reading.{digit-yes}
 use Rattle.text.proofs.Decimal.{decimal-places}
 use Rattle.text.proofs.Texts.{and-left, and-right}
 use Rattle.text.proofs.Parts.{all-append}
-use Rattle.text.proofs.Booleans.{and-both}
+use Rattle.text.proofs.Booleans.{and-both, false-true}
 use Rattle.rules.specs.Price.{wholePart, fraction, wholeText, fractionText, priceText}
 use Rattle.rules.specs.Volume.{group, fullVolume}
 use Rattle.rules.specs.Conditions.{sellerText, previousText}
 use Rattle.rules.specs.declared.Price.{Price}
-use Rattle.named.proofs.Root.{false-true}
 use Rattle.volumescan.specs.declared.Volume.{Volume}
 use Rattle.volumescan.specs.declared.Volume.the-variants.{Unsaid, Hundreds, Tens, Shares}
 use Rattle.volumescan.specs.declared.VolumeRead.{VolumeRead}
@@ -28,7 +27,6 @@ use Rattle.volumescan.specs.declared.VolumeAnswer.{VolumeAnswer}
 use Rattle.volumescan.specs.declared.VolumeAnswer.the-variants.{Said, NoVolume}
 use Rattle.volumescan.specs.Volume.{volumeAt, saidText}
 use Rattle.volumescan.proofs.Shown.{VolumeFound, volume-found}
-use Rattle.nameable.proofs.Counts.{take-drop}
 use Rattle.longest.proofs.Tail.{fromAverage, sizeAverage}
 
 -- a digit or a figure dot
@@ -151,7 +149,7 @@ overlaps p Z w e =
     let m = marked (w .volume) (nothing (P ++ Z) w f) in
     let rest = drop (w .used) (P ++ Z) in
     let l : length (m .figures) ≤ w .used = omega (ap length (f .text ∙ m .text), length-append (m .figures) (m .mark), length-take (w .used) (P ++ Z), arith) in
-    let x : P ++ Z ≡ m .figures ++ (m .mark ++ rest) = sym (take-drop (w .used) (P ++ Z)) ∙ ap (λ y. y ++ rest) (f .text ∙ m .text) ∙ append-assoc (m .figures) (m .mark) rest in
+    let x : P ++ Z ≡ m .figures ++ (m .mark ++ rest) = sym (take-append-drop (w .used) (P ++ Z)) ∙ ap (λ y. y ++ rest) (f .text ∙ m .text) ∙ append-assoc (m .figures) (m .mark) rest in
     let y : pastFigures Z ≡ m .mark ++ rest = sym (past-all P Z (price-figures p)) ∙ ap pastFigures x ∙ past-all (m .figures) (m .mark ++ rest) (m .all-figures) ∙ past-stop (m .mark ++ rest) (m .ends rest) in
     record { far = omega (front-ends P Z (m .figures) (m .mark ++ rest) x (price-figures p) (m .ends rest), l, arith); mark-there = ap isMark y ∙ m .marks rest }
 

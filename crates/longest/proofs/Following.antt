@@ -13,7 +13,7 @@ use Rattle.text.specs.Pick.{pick, opt}
 use Rattle.text.specs.Reading.{Read, found, heads, isDigit, starts, past, dotDigit}
 use Rattle.text.proofs.Texts.{and-right}
 use Rattle.text.proofs.Reading.{past-append}
-use Rattle.text.proofs.Booleans.{and-false}
+use Rattle.text.proofs.Booleans.{and-false, false-true}
 use Rattle.rules.specs.Tape.{isLetter, isUpper}
 use Rattle.rules.specs.Names.{nameText}
 use Rattle.rules.specs.Side.{sideText}
@@ -29,7 +29,6 @@ use Rattle.conditions.proofs.TailBack.{Ends}
 use Rattle.trade.specs.Reading.{readSide}
 use Rattle.announcement.specs.Reading.{Told, readAnnouncement}
 use Rattle.announcement.proofs.Back.{mode-back, level-back}
-use Rattle.named.proofs.Root.{false-true}
 use Rattle.named.proofs.Parts.{front-is}
 use Rattle.compose.specs.Shown.{Enterable, Showable}
 use Rattle.compose.specs.Printable.{Printable, by-mode, by-level, by-trade, by-cancel, by-error, by-correction}

@@ -19,7 +19,6 @@ use Rattle.rules.specs.Price.{priceText}
 use Rattle.rules.specs.Volume.{volumeText}
 use Rattle.rules.specs.Side.{tailText}
 use Rattle.rules.specs.declared.Side.{Side}
-use Rattle.named.proofs.Root.{false-true, either}
 use Rattle.compose.specs.Shown.{Showable}
 use Rattle.sideread.specs.declared.Beside.the-variants.{Alone, With}
 use Rattle.sideread.specs.declared.SideRead.{SideRead}
@@ -55,7 +54,7 @@ use Rattle.text.specs.Reading.{heads}
 use Rattle.named.proofs.Back.{name-head}
 use Rattle.text.proofs.Tests.{is-ne}
 use Rattle.text.proofs.Parts.{heads-append}
-use Rattle.text.proofs.Booleans.{nonzero, and-both}
+use Rattle.text.proofs.Booleans.{nonzero, and-both, false-true, or-cases}
 use Rattle.rules.specs.Tape.{isLetter}
 use Rattle.rules.specs.Announcement.{modeText, levelText}
 use Rattle.rules.specs.Correction.{cancelOpening, errorOpening}
@@ -110,7 +109,7 @@ trade-tells s = trade-head-tells s (headAt true s) refl
 
 -- ---- cancels and errors
 
--- of either opening
+-- of or-cases opening
 module _ (error : Bool) (opening s : List ℕ) (six : length opening ≡ 6) (opens : starts opening s ≡ true) (kind : Side → ReadFact)
     (by-kind : (network unit : ℕ) (name : List ℕ) (x : Side) → Enterable network unit name → Showable network x → Printable (cancelText opening (nameText false name) network unit true true x) (nameText false name) (kind x))
     (told : (x : PrintRead) → Printable (take (x .length) s) (take (x .to - x .from) (drop (x .from) s)) (kind (x .side)) → Tells s (amended error x)) where

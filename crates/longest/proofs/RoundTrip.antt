@@ -4,14 +4,13 @@ use native.Mathlib.Omega.{arith}
 use mathlib.Core.Path.{_≡_, refl, sym, ap, _∙_, subst}
 use mathlib.Core.List.{List, [], _∷_, _++_, append-nil}
 use mathlib.Core.Option.{Option, none, some}
-use lib.ListN.{length, take, drop}
+use lib.ListN.{length, take, drop, take-append-drop}
 use lib.Seq.{take-at, length-take-le}
 use Rattle.rules.specs.NormalPrint.{ReadFact, NormalPrint}
 use Rattle.reader.specs.declared.ReadAnswer.{ReadAnswer}
 use Rattle.reader.specs.Read.{printAt, readAt}
 use Rattle.reader.specs.Told.{lengthOf, nameAt, factIn}
 use Rattle.reader.proofs.Bounds.{Within, print-within}
-use Rattle.nameable.proofs.Counts.{take-drop}
 use Rattle.decoder.proofs.Fresh.{Fresh, fresh-end}
 use Rattle.longest.specs.Claim.{Longest}
 use Rattle.longest.specs.Back.{Back}
@@ -38,7 +37,7 @@ module _ (text name : List ℕ) (fact : ReadFact) (p : NormalPrint text name fac
   back-by g e =
       let l = longest-print tape 0 in
       let q = l .told g e in
-      let most = exact p rest f (take (lengthOf answer) tape) (nameAt tape 0) (drop (lengthOf answer) tape) g q (sym (take-drop (lengthOf answer) tape)) in
+      let most = exact p rest f (take (lengthOf answer) tape) (nameAt tape 0) (drop (lengthOf answer) tape) g q (sym (take-append-drop (lengthOf answer) tape)) in
       let least = l .longest text name rest fact p refl in
       let n : lengthOf answer ≡ length text = omega (most, least, length-take-le (lengthOf answer) tape within, arith) in
       let d = determined (subst (λ t. NormalPrint t (nameAt tape 0) g) (front n) q) p in

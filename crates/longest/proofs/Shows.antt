@@ -22,9 +22,9 @@ use Rattle.rules.specs.Line.{isPrice, isUnit, isNetwork}
 use Rattle.rules.specs.declared.Letters.{Letters}
 use Rattle.rules.specs.declared.Price.{Price}
 use Rattle.rules.specs.declared.Side.{Side}
+use Rattle.text.proofs.Booleans.{false-true, or-cases}
 use Rattle.prices.specs.Sound.{Sound}
 use Rattle.named.specs.Cut.{oneSold}
-use Rattle.named.proofs.Root.{false-true, either}
 use Rattle.compose.specs.Shown.{letterCount, oneDelivery, showable, Showable}
 use Rattle.scan.specs.declared.PriceRead.{PriceRead}
 use Rattle.scan.specs.declared.PriceAnswer.{PriceAnswer}
@@ -130,4 +130,4 @@ module _ (first : Beside) (letters : Letters) (a b : Bool) (part : List ℕ) (x 
   by-b z = let u = t .on-b z in record { network = 66; is-network = refl; unit-there = u .1; shows = shows-on 66 (on-network-b (t .lawful .on-b z)) (u .1); allowed = u .0 }
 
   pub explains-side : Explains
-  explains-side = ⊎-elim by-a by-b (either (x .taken .a) (x .taken .b) (t .one))
+  explains-side = ⊎-elim by-a by-b (or-cases (x .taken .a) (x .taken .b) (t .one))

@@ -24,7 +24,6 @@ use Rattle.rules.specs.declared.Price.{Price}
 use Rattle.rules.specs.declared.Side.{Side}
 use Rattle.prices.specs.Sound.{Sound}
 use Rattle.named.specs.Cut.{oneSold}
-use Rattle.named.proofs.Root.{false-true, either}
 use Rattle.compose.specs.Shown.{letterCount, oneDelivery, showable, Showable}
 use Rattle.scan.specs.declared.PriceRead.{PriceRead}
 use Rattle.scan.specs.declared.PriceAnswer.{PriceAnswer}
@@ -50,6 +49,7 @@ use Rattle.sideread.specs.declared.SideRead.{SideRead}
 use Rattle.sideread.specs.declared.SideAnswer.{SideAnswer}
 use Rattle.rules.specs.declared.Refusal.{Refusal}
 use Rattle.rules.specs.declared.Refusal.the-variants.{NoPrint}
+use Rattle.text.proofs.Booleans.{false-true, or-cases}
 use Rattle.sideread.specs.declared.SideAnswer.the-variants.{Sided, Refused as Unsided}
 use Rattle.sideread.specs.Side.{headCount, beside, sidedBy, sideWith, saidSide, orElse, sideAt}
 
@@ -73,10 +73,10 @@ explaining network x y h =
     (λ h₃. ⊎-elim (λ q. unit-of network 25 x y refl q)
     (λ h₄. ⊎-elim (λ q. unit-of network 10 x y refl q)
     (λ q. unit-of network 1 x y refl q)
-    (either (explainsBoth network 10 x y) (explainsBoth network 1 x y) h₄))
-    (either (explainsBoth network 25 x y) (explainsBoth network 10 x y || explainsBoth network 1 x y) h₃))
-    (either (explainsBoth network 50 x y) (explainsBoth network 25 x y || (explainsBoth network 10 x y || explainsBoth network 1 x y)) h₂))
-    (either (explainsBoth network 100 x y) (explainsBoth network 50 x y || (explainsBoth network 25 x y || (explainsBoth network 10 x y || explainsBoth network 1 x y))) h)
+    (or-cases (explainsBoth network 10 x y) (explainsBoth network 1 x y) h₄))
+    (or-cases (explainsBoth network 25 x y) (explainsBoth network 10 x y || explainsBoth network 1 x y) h₃))
+    (or-cases (explainsBoth network 50 x y) (explainsBoth network 25 x y || (explainsBoth network 10 x y || explainsBoth network 1 x y)) h₂))
+    (or-cases (explainsBoth network 100 x y) (explainsBoth network 50 x y || (explainsBoth network 25 x y || (explainsBoth network 10 x y || explainsBoth network 1 x y))) h)
 
 -- ---- days and previous last stand only with their letters
 

@@ -7,7 +7,7 @@ use mathlib.Core.Bool.{Bool, true, false, _&&_, _||_, not}
 use mathlib.Core.List.{List, [], _∷_, _++_, append-assoc}
 use lib.Dec.{eqb, leb}
 use lib.ListN.{length, drop, length-append}
-use lib.Seq.{drop-drop}
+use lib.Seq.{drop-drop, drop-append-seam}
 use Rattle.text.specs.Bytes.{bytes}
 use Rattle.text.specs.Pick.{pick, opt, among}
 use Rattle.text.proofs.Texts.{and-left, and-right}
@@ -22,7 +22,6 @@ use Rattle.rules.specs.declared.Price.{Price}
 use Rattle.rules.specs.declared.Side.{Side}
 use Rattle.prices.specs.Sound.{Sound}
 use Rattle.named.specs.Cut.{oneSold}
-use Rattle.named.proofs.Root.{false-true, either}
 use Rattle.compose.specs.Shown.{letterCount, oneDelivery, showable, Showable}
 use Rattle.scan.specs.declared.PriceRead.{PriceRead}
 use Rattle.scan.specs.declared.PriceAnswer.{PriceAnswer}
@@ -46,12 +45,11 @@ use Rattle.sideread.specs.declared.SideAnswer.the-variants.{Sided, Refused as U
 use Rattle.sideread.specs.Side.{headCount, beside, sidedBy, sideWith, saidSide, orElse, sideAt}
 use borrow.Author.Tests.{eqb-true, leb-true, ltb-true, not-true}
 use Rattle.text.specs.Reading.{heads, isDigit, dotDigit}
-use Rattle.text.proofs.Booleans.{implied, and-off, or-true, and-both}
+use Rattle.text.proofs.Booleans.{implied, and-off, or-true, and-both, false-true, or-cases}
 use Rattle.rules.specs.Conditions.{sellerText, previousText, afterPrice, atEnd}
 use Rattle.prices.proofs.PriceBack.{NoMore}
 use Rattle.scan.proofs.PriceBack.{PriceAgain, price-again}
 use Rattle.volumescan.proofs.VolumeBack.{VolumeAgain, volume-again, volume-empty}
-use Rattle.nameable.proofs.Counts.{drop-front}
 use Rattle.compose.specs.Shown.{one}
 use Rattle.longest.proofs.Side.{beginning, sideIn, no-side}
 use Rattle.longest.proofs.Tail.{tail-forward, fromAverage, sizeAverage, May, covers-tail}
@@ -93,11 +91,11 @@ unit-explains network unit x y u h k =
     (λ u₃. ⊎-elim (λ q. by-quarter network x y (ap (λ n. explainsBoth network n x y) (sym (eqb-true unit 25 q)) ∙ e))
     (λ u₄. ⊎-elim (λ q. by-fifty network x y (ap (λ n. explainsBoth network n x y) (sym (eqb-true unit 50 q)) ∙ e))
     (λ u₅. ⊎-elim (λ q. by-hundred network x y (ap (λ n. explainsBoth network n x y) (sym (eqb-true unit 100 q)) ∙ e)) (λ q. absurd (false-true q))
-    (either (eqb unit 100) false u₅))
-    (either (eqb unit 50) (eqb unit 100 || false) u₄))
-    (either (eqb unit 25) (eqb unit 50 || (eqb unit 100 || false)) u₃))
-    (either (eqb unit 10) (eqb unit 25 || (eqb unit 50 || (eqb unit 100 || false))) u₂))
-    (either (eqb unit 1) (eqb unit 10 || (eqb unit 25 || (eqb unit 50 || (eqb unit 100 || false)))) u)
+    (or-cases (eqb unit 100) false u₅))
+    (or-cases (eqb unit 50) (eqb unit 100 || false) u₄))
+    (or-cases (eqb unit 25) (eqb unit 50 || (eqb unit 100 || false)) u₃))
+    (or-cases (eqb unit 10) (eqb unit 25 || (eqb unit 50 || (eqb unit 100 || false))) u₂))
+    (or-cases (eqb unit 1) (eqb unit 10 || (eqb unit 25 || (eqb unit 50 || (eqb unit 100 || false)))) u)
 
 -- ---- the conditions of a side, one after the other
 
@@ -253,7 +251,7 @@ module _ (network : ℕ) (x : Side) (h : Showable network x) where
       unfolding lettersAfter
       stopped-at m =
           let e = (k .exact m) .0 in
-          let d : drop (used + k .got .used) part ≡ tailText x ++ R = ap (λ n. drop (used + n) part) e ∙ sym (drop-drop (length (priceText true (x .price))) used part) ∙ ap (drop (length (priceText true (x .price)))) at ∙ drop-front (priceText true (x .price)) (tailText x ++ R) in
+          let d : drop (used + k .got .used) part ≡ tailText x ++ R = ap (λ n. drop (used + n) part) e ∙ sym (drop-drop (length (priceText true (x .price))) used part) ∙ ap (drop (length (priceText true (x .price)))) at ∙ drop-append-seam (priceText true (x .price)) (tailText x ++ R) in
           let c = covers-tail part (beginning L v used a b (k .got)) (x .letters .k) (x .letters .b) (x .letters .t) (x .letters .r) (x .days) (x .letters .j) (x .letters .g) (x .previous) R (d ∙ tail-parts x R shown-c) (may (k .got)) (λ z. and-off (x .letters .m) (x .letters .k) apart-mk z) apart-kr in
           omega (c, e, tail-size x shown-c, arith)
 
@@ -280,8 +278,8 @@ pub still : (network : ℕ) (a b : Bool) (v : Volume) → isNetwork network ≡ 
 unfolding isNetwork among flagOf pick
 still network a b v n f e =
     ⊎-elim (λ q. on-65 network (eqb-true network 65 q) a b v f e)
-    (λ q. ⊎-elim (λ r. on-66 network (eqb-true network 66 r) a b v f e) (λ r. absurd (false-true r)) (either (eqb network 66) false q))
-    (either (eqb network 65) (eqb network 66 || false) n)
+    (λ q. ⊎-elim (λ r. on-66 network (eqb-true network 66 r) a b v f e) (λ r. absurd (false-true r)) (or-cases (eqb network 66) false q))
+    (or-cases (eqb network 65) (eqb network 66 || false) n)
 
 one-picked : (t a b : Bool) → pick t a b ≡ true → (a || b) ≡ true
 unfolding pick
@@ -305,8 +303,8 @@ pub still-with : (first : Beside) (network : ℕ) (a b : Bool) (v : Volume) → 
 unfolding isNetwork among
 still-with first network a b v n f e =
     ⊎-elim (λ q. with-65 first network (eqb-true network 65 q) a b v f e)
-    (λ q. ⊎-elim (λ r. with-66 first network (eqb-true network 66 r) a b v f e) (λ r. absurd (false-true r)) (either (eqb network 66) false q))
-    (either (eqb network 65) (eqb network 66 || false) n)
+    (λ q. ⊎-elim (λ r. with-66 first network (eqb-true network 66 r) a b v f e) (λ r. absurd (false-true r)) (or-cases (eqb network 66) false q))
+    (or-cases (eqb network 65) (eqb network 66 || false) n)
 
 -- ---- a side is read
 
@@ -386,7 +384,7 @@ module _ (network unit : ℕ) (x : Side) (h : Showable network x) (u : isUnit un
   said-reaches R k =
       let shown = volumeText network unit (x .volume) in
       let rest = priceText true (x .price) ++ (tailText x ++ R) in
-      let r = with-reaches (k .got .volume) (k .got .used) (shown ++ rest) R (k .by-unit) (ap (λ n. drop n (shown ++ rest)) (k .exact) ∙ drop-front shown rest) in
+      let r = with-reaches (k .got .volume) (k .got .used) (shown ++ rest) R (k .by-unit) (ap (λ n. drop n (shown ++ rest)) (k .exact) ∙ drop-append-seam shown rest) in
       said-first Alone letters a b (shown ++ rest) (k .got) (k .read) (subst (λ n. Reaches (sideWith Alone letters a b (shown ++ rest) (k .got .volume) (k .got .used)) (n + (length (priceText true (x .price)) + length (tailText x)))) (k .exact) r)
 
   by-volume : (shown : List ℕ) → volumeText network unit (x .volume) ≡ shown → (R : List ℕ) → 1 ≤ x .volume → x .volume < 1000000000 → Reaches (sideAt Alone letters a b (volumeText network unit (x .volume) ++ (priceText true (x .price) ++ (tailText x ++ R)))) (length (volumeText network unit (x .volume)) + (length (priceText true (x .price)) + length (tailText x)))

@@ -6,7 +6,7 @@ use mathlib.Core.Bool.{Bool, true, false, _&&_, _||_}
 use mathlib.Core.List.{List, [], _∷_, _++_}
 use lib.Dec.{eqb}
 use lib.ListN.{length, drop}
-use lib.Seq.{drop-drop}
+use lib.Seq.{drop-drop, drop-append-seam}
 use Rattle.text.specs.Bytes.{bytes}
 use Rattle.text.specs.Pick.{pick, opt}
 use Rattle.rules.specs.Price.{priceText}
@@ -36,7 +36,6 @@ use Rattle.rules.specs.Conditions.{sellerText, previousText}
 use Rattle.prices.proofs.PriceBack.{NoMore}
 use Rattle.scan.proofs.PriceBack.{price-again}
 use Rattle.volumescan.proofs.VolumeBack.{volume-again, volume-empty}
-use Rattle.nameable.proofs.Counts.{drop-front}
 use Rattle.compose.specs.Shown.{one}
 use Rattle.longest.proofs.Side.{beginning}
 use Rattle.longest.proofs.Tail.{fromAverage}
@@ -128,7 +127,7 @@ module _ (first : Beside) (network unit : ℕ) (x : Side) (h : Showable network 
       let n = b && explained 66 (beside first v) v in
       let g : flagOf network y n ≡ true = still-with first network a b v w f (unit-explains network unit (beside first v) v u c e) in
       let o : (y || n) ≡ true = one-flag network y n g in
-      let q : drop (used + k .got .used) part ≡ tailText x ++ R = ap (λ i. drop (used + i) part) (m .0) ∙ sym (drop-drop (length (priceText true (x .price))) used part) ∙ ap (drop (length (priceText true (x .price)))) d ∙ drop-front (priceText true (x .price)) (tailText x ++ R) in
+      let q : drop (used + k .got .used) part ≡ tailText x ++ R = ap (λ i. drop (used + i) part) (m .0) ∙ sym (drop-drop (length (priceText true (x .price))) used part) ∙ ap (drop (length (priceText true (x .price)))) d ∙ drop-append-seam (priceText true (x .price)) (tailText x ++ R) in
       let t = tail-ends part (beginning letters v used y n (k .got)) (used + k .got .used) (headCount letters) letters y n (x .letters .k) (x .letters .b) (x .letters .t) (x .letters .r) (x .days) (x .letters .j) (x .letters .g) (x .previous) R (begins v used part y n (k .got) g q) (λ i. (z i) .ends) in
       record {
         got = record { volume = v; taken = tailAt part (beginning letters v used y n (k .got)) };
@@ -159,7 +158,7 @@ module _ (first : Beside) (network unit : ℕ) (x : Side) (h : Showable network 
       let v = volumeText network unit (x .volume) in
       let rest = priceText true (x .price) ++ (tailText x ++ R) in
       let k = volume-again network unit (x .volume) w u o l (λ i. some-not-none s shown (sym e ∙ i)) rest in
-      let r = with-ends (k .got .volume) (k .got .used) (v ++ rest) (c (k .got .volume) (k .by-unit)) (k .by-unit) (ap (λ n. drop n (v ++ rest)) (k .exact) ∙ drop-front v rest) in
+      let r = with-ends (k .got .volume) (k .got .used) (v ++ rest) (c (k .got .volume) (k .by-unit)) (k .by-unit) (ap (λ n. drop n (v ++ rest)) (k .exact) ∙ drop-append-seam v rest) in
       record { got = r .got; is = rw (k .read, r .is); by-unit = r .by-unit; flags = r .flags; others = r .others; on = r .on; tail = subst (λ n. TailEnd (r .got .taken) (n + (length (priceText true (x .price)) + length (tailText x))) (lettersBefore letters (x .letters .k) (x .letters .b) (x .letters .t) (x .letters .r) (x .letters .j)) (r .flags) (pick (x .letters .j) false (r .others)) (x .letters .g) R) (k .exact) (r .tail) }
 
   -- THE SIDE, EXACTLY OR WITH A PREVIOUS LAST MORE

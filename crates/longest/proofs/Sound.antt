@@ -18,7 +18,6 @@ use Rattle.rules.specs.Line.{isNetwork}
 use Rattle.rules.specs.declared.Letters.{Letters}
 use Rattle.rules.specs.declared.Side.{Side}
 use Rattle.named.specs.Cut.{oneSold}
-use Rattle.named.proofs.Root.{false-true, either}
 use Rattle.compose.specs.Shown.{Showable}
 use Rattle.volumescan.specs.Volume.{saidText, explains}
 use Rattle.volumescan.proofs.Shown.{explained-text}
@@ -38,6 +37,7 @@ use Rattle.compose.specs.Shown.{Enterable}
 use Rattle.compose.specs.Printable.{Printable, by-trade}
 use Rattle.rules.specs.Correction.{endPair, cancelText}
 use Rattle.text.proofs.Parts.{starts-front}
+use Rattle.text.proofs.Booleans.{false-true, or-cases}
 use Rattle.heading.specs.Name.{nameOn}
 use Rattle.heading.specs.declared.NameRead.{NameRead}
 use Rattle.nameable.proofs.Built.{name-built}
@@ -91,8 +91,8 @@ pub on-network : (temporary : Bool) (s : List ℕ) (h : NameRead) (network : ℕ
 unfolding isNetwork among
 on-network temporary s h network t n e =
     ⊎-elim (λ q. ap (λ k. nameOn temporary k (take (h .length) s)) (eqb-true network 65 q) ∙ sym (t .on-a) ∙ picked-a network q (h .a) (h .b) e)
-    (λ q. ⊎-elim (λ r. ap (λ k. nameOn temporary k (take (h .length) s)) (eqb-true network 66 r) ∙ sym (t .on-b) ∙ picked-b network r (h .a) (h .b) e) (λ r. absurd (false-true r)) (either (eqb network 66) false q))
-    (either (eqb network 65) (eqb network 66 || false) n)
+    (λ q. ⊎-elim (λ r. ap (λ k. nameOn temporary k (take (h .length) s)) (eqb-true network 66 r) ∙ sym (t .on-b) ∙ picked-b network r (h .a) (h .b) e) (λ r. absurd (false-true r)) (or-cases (eqb network 66) false q))
+    (or-cases (eqb network 65) (eqb network 66 || false) n)
 
 -- ---- trades
 

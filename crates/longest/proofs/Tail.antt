@@ -6,7 +6,7 @@ use mathlib.Core.Bool.{Bool, true, false, _&&_, not}
 use mathlib.Core.List.{List, [], _∷_, _++_, append-assoc}
 use lib.Dec.{eqb, ltb}
 use lib.ListN.{length, drop, length-append}
-use lib.Seq.{drop-drop}
+use lib.Seq.{drop-drop, drop-append-seam}
 use Rattle.conditions.proofs.TailBack.{pair-ends}
 use Rattle.text.specs.Bytes.{bytes}
 use Rattle.text.specs.Pick.{pick, opt}
@@ -16,14 +16,12 @@ use Rattle.text.specs.Reading.{starts, heads, isDigit}
 use Rattle.text.proofs.Reading.{starts-append}
 use Rattle.text.proofs.Tests.{is-lt, is-ne}
 use Rattle.text.proofs.Texts.{and-right}
-use Rattle.nameable.proofs.Counts.{drop-front}
 use Rattle.rules.specs.Price.{priceText, units}
 use Rattle.rules.specs.Conditions.{sellerText, previousText}
 use Rattle.rules.specs.declared.Price.{Price}
 use Rattle.rules.specs.declared.Side.{Side}
+use Rattle.text.proofs.Booleans.{false-true, eqb-flip}
 use Rattle.prices.specs.Sound.{Sound}
-use Rattle.named.proofs.Root.{false-true}
-use Rattle.normal.proofs.Count.{flip}
 use Rattle.compose.specs.Shown.{one}
 use Rattle.scan.specs.declared.Digits.{Digits}
 use Rattle.scan.specs.declared.PriceRead.{PriceRead}
@@ -184,7 +182,7 @@ const-step P X D false false plus st size e there back clear m = on refl
 
 -- what is left behind a condition
 pub dropped : (s P X : List ℕ) (n : ℕ) (f : Bool) → drop n s ≡ opt f P ++ X → drop (n + length (opt f P)) s ≡ X
-dropped s P X n f h = sym (drop-drop (length (opt f P)) n s) ∙ ap (drop (length (opt f P))) h ∙ drop-front (opt f P) X
+dropped s P X n f h = sym (drop-drop (length (opt f P)) n s) ∙ ap (drop (length (opt f P))) h ∙ drop-append-seam (opt f P) X
 
 module _ (s : List ℕ) (st : Taken) where
   pub cash-yes : st .count < 4 → st .side .letters .m ≡ false → starts (bytes ",c") (drop (st .used) s) ≡ true → takesCash s st ≡ true
@@ -254,7 +252,7 @@ module _ (s : List ℕ) (st : Taken) where
 zero-no : (s : List ℕ) → zeroFirst s ≡ false → starts (bytes "0") s ≡ false
 unfolding zeroFirst starts
 zero-no [] h = refl
-zero-no (c ∷ s) h = ap (λ b. b && true) (flip c 48 h)
+zero-no (c ∷ s) h = ap (λ b. b && true) (eqb-flip c 48 h)
 
 -- the days that are read: as many digits at least, and exactly these where no digit follows
 pub record DaysAgain (d : ℕ) (X : List ℕ) : Type 0 where
@@ -350,7 +348,7 @@ previous-again q R h o =
     let a = price-again q h o (bytes ">>" ++ R) in
     let x = a .exact (pair-ends R) in
     let e : ((bytes ">>PREV.LAST" ++ t) ++ bytes ">>") ++ R ≡ bytes ">>PREV.LAST" ++ (t ++ (bytes ">>" ++ R)) = append-assoc (bytes ">>PREV.LAST" ++ t) (bytes ">>") R in
-    let f : drop (a .got .used) (t ++ (bytes ">>" ++ R)) ≡ bytes ">>" ++ R = ap (λ n. drop n (t ++ (bytes ">>" ++ R))) (x .0) ∙ drop-front t (bytes ">>" ++ R) in
+    let f : drop (a .got .used) (t ++ (bytes ">>" ++ R)) ≡ bytes ">>" ++ R = ap (λ n. drop n (t ++ (bytes ">>" ++ R))) (x .0) ∙ drop-append-seam t (bytes ">>" ++ R) in
     record {
       got = a .got;
       read = ap (λ z. pick (starts (bytes ">>PREV.LAST") z) (closedBy (drop 11 z) (priceAt (drop 11 z))) NoPrice) e ∙ rw (a .read, f);
@@ -400,7 +398,7 @@ room true st more h z = omega (h, arith)
 room false st more h z = absurd (false-true z)
 
 pub dropped-all : (s P X : List ℕ) (n : ℕ) → drop n s ≡ P ++ X → drop (n + length P) s ≡ X
-dropped-all s P X n h = sym (drop-drop (length P) n s) ∙ ap (drop (length P)) h ∙ drop-front P X
+dropped-all s P X n h = sym (drop-drop (length P) n s) ∙ ap (drop (length P)) h ∙ drop-append-seam P X
 
 module _ (st : Taken) (d : ℕ) where
   abbrev pub sold : Taken

@@ -12,12 +12,11 @@ use Rattle.text.specs.Decimal.{decimal}
 use Rattle.text.proofs.Decimal.{some-digits}
 use Rattle.text.specs.Reading.{starts, heads, isDigit}
 use Rattle.text.proofs.Reading.{starts-append}
-use Rattle.text.proofs.Booleans.{and-off}
+use Rattle.text.proofs.Booleans.{and-off, false-true}
 use Rattle.rules.specs.Conditions.{sellerText, previousText}
 use Rattle.rules.specs.declared.Letters.{Letters}
 use Rattle.rules.specs.declared.Price.{Price}
 use Rattle.prices.specs.Sound.{Sound}
-use Rattle.named.proofs.Root.{false-true}
 use Rattle.compose.specs.Shown.{one}
 use Rattle.scan.specs.declared.PriceRead.{PriceRead}
 use Rattle.scan.specs.declared.PriceAnswer.{PriceAnswer}

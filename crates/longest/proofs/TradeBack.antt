@@ -7,6 +7,7 @@ use mathlib.Core.Bool.{Bool, true, false, _&&_, _||_, not}
 use mathlib.Core.List.{List, [], _∷_, _++_, append-assoc}
 use lib.Dec.{eqb, leb}
 use lib.ListN.{length, take, drop, length-append}
+use lib.Seq.{drop-append-seam}
 use borrow.Author.Tests.{eqb-true, leb-true}
 use Rattle.text.specs.Pick.{pick, opt, among}
 use Rattle.text.specs.Reading.{heads}
@@ -21,14 +22,13 @@ use Rattle.rules.specs.Side.{headText, tailText, sideText}
 use Rattle.rules.specs.Line.{isNetwork}
 use Rattle.rules.specs.declared.Letters.{Letters}
 use Rattle.rules.specs.declared.Side.{Side}
+use Rattle.text.proofs.Booleans.{false-true, or-cases}
 use Rattle.trade.proofs.SideBack.{side-lower}
-use Rattle.named.proofs.Root.{false-true, either}
 use Rattle.compose.specs.Shown.{Enterable, Showable}
 use Rattle.heading.specs.Name.{nameOn}
 use Rattle.heading.specs.Head.{lettersAfter, headAt}
 use Rattle.heading.specs.declared.NameAnswer.{NameAnswer}
 use Rattle.heading.specs.declared.NameAnswer.the-variants.{Named, NoName}
-use Rattle.nameable.proofs.Counts.{drop-front}
 use Rattle.nameable.proofs.Lawful.{name-lawful}
 use Rattle.nameable.proofs.Head.{headRead, head-found}
 use Rattle.sideread.specs.declared.Beside.the-variants.{Alone, With}
@@ -45,8 +45,8 @@ pub flag-there : (temporary : Bool) (network : ℕ) (text : List ℕ) → isNetw
 unfolding isNetwork among flagOf pick
 flag-there temporary network text n h =
     ⊎-elim (λ q. on-a network (eqb-true network 65 q))
-    (λ q. ⊎-elim (λ r. on-b network (eqb-true network 66 r)) (λ r. absurd (false-true r)) (either (eqb network 66) false q))
-    (either (eqb network 65) (eqb network 66 || false) n)
+    (λ q. ⊎-elim (λ r. on-b network (eqb-true network 66 r)) (λ r. absurd (false-true r)) (or-cases (eqb network 66) false q))
+    (or-cases (eqb network 65) (eqb network 66 || false) n)
   where
     on-a : (k : ℕ) → network ≡ 65 → pick (eqb network 65) (nameOn temporary 65 text) (nameOn temporary 66 text) ≡ true
     on-a k e = ap (λ m. pick (eqb m 65) (nameOn temporary 65 text) (nameOn temporary 66 text)) e ∙ ap (λ m. nameOn temporary m text) (sym e) ∙ h
@@ -97,6 +97,6 @@ module _ (network unit : ℕ) (name : List ℕ) (x : Side) (e : Enterable networ
       let r = side-reaches network unit x h (e .trades-in) (e .on) a b f R (v .0) (v .1) in
       record {
         got = record { length = length head + r .got .taken .used; from = 0; to = length (nameText true name); side = r .got .taken .side };
-        is = rw (joined, headed, drop-front head rest, r .is);
+        is = rw (joined, headed, drop-append-seam head rest, r .is);
         far = omega (size, r .far, arith);
       }

@@ -6,6 +6,7 @@ use mathlib.Core.Bool.{Bool, true, false}
 use mathlib.Core.List.{List, [], _∷_, _++_}
 use lib.Dec.{leb}
 use lib.ListN.{length, take, drop, length-append, length-take}
+use lib.Seq.{take-append-seam, drop-append-seam}
 use Rattle.text.specs.Pick.{pick, opt, all, same}
 use Rattle.text.specs.Reading.{heads, starts}
 use Rattle.text.proofs.Reading.{starts-append}
@@ -14,8 +15,8 @@ use Rattle.text.proofs.Parts.{all-append}
 use Rattle.rules.specs.Tape.{isUpper}
 use Rattle.rules.specs.Conditions.{afterName}
 use Rattle.rules.specs.declared.Letters.{Letters}
+use Rattle.text.proofs.Booleans.{false-true}
 use Rattle.named.specs.Cut.{oneSold}
-use Rattle.named.proofs.Root.{false-true}
 use Rattle.named.proofs.Parts.{front-is}
 use Rattle.named.proofs.Back.{conditions-upper}
 use Rattle.heading.specs.Head.{lettersAfter, soldIn, afterIn, upperCount, againBy, againIn, againAt}
@@ -25,7 +26,7 @@ use Rattle.heading.specs.declared.AgainRead.{AgainRead}
 use Rattle.heading.specs.declared.AgainAnswer.{AgainAnswer}
 use Rattle.heading.specs.declared.AgainAnswer.the-variants.{Again, NotAgain}
 use Rattle.heading.proofs.Count.{count-within}
-use Rattle.nameable.proofs.Counts.{count-all, take-front, drop-front}
+use Rattle.nameable.proofs.Counts.{count-all}
 use Rattle.nameable.proofs.Head.{after-back, after-short, after-told}
 
 -- ---- it is found
@@ -40,12 +41,12 @@ some-front (c ∷ t) u h = rw (starts-append (c ∷ t) u)
 
 module _ (x : Letters) (z : x .n ≡ false) (o : oneSold x ≡ true) (s : List ℕ) (l : heads isUpper s ≡ false) where
   run-is : (t : List ℕ) → all isUpper t ≡ true → length t ≤ 22 → take (upperCount ((t ++ afterName x) ++ s)) ((t ++ afterName x) ++ s) ≡ t ++ afterName x
-  run-is t u k = rw (count-all isUpper 35 (t ++ afterName x) s (all-append isUpper t (afterName x) u (conditions-upper x)) (omega (length-append t (afterName x), after-short x z o, k, arith)) l) (take-front (t ++ afterName x) s)
+  run-is t u k = rw (count-all isUpper 35 (t ++ afterName x) s (all-append isUpper t (afterName x) u (conditions-upper x)) (omega (length-append t (afterName x), after-short x z o, k, arith)) l) (take-append-seam (t ++ afterName x) s)
 
   -- with the name again
   pub again-found : (t : List ℕ) → all isUpper t ≡ true → length t ≤ 22 → 1 ≤ length t → againAt t ((t ++ afterName x) ++ s) ≡ Again (againRead t x)
   unfolding againAt againRead againBy
-  again-found t u k i = rw (run-is t u k, some-front t (afterName x) i, drop-front t (afterName x), after-back x z o)
+  again-found t u k i = rw (run-is t u k, some-front t (afterName x) i, drop-append-seam t (afterName x), after-back x z o)
 
   -- without it, where there is no condition after it either
   pub again-none : (t : List ℕ) → afterName x ≡ [] → againAt t s ≡ Again (record { used = 0; letters = lettersAfter false false false false })

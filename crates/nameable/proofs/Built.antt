@@ -6,25 +6,24 @@ use mathlib.Core.Logic.{_⊎_, ⊎-elim}
 use mathlib.Core.Bool.{Bool, true, false, _&&_, _||_, not}
 use mathlib.Core.List.{List, [], _∷_, _++_, append-assoc, append-nil}
 use lib.Dec.{eqb, leb}
-use lib.ListN.{length, take, drop, getD}
+use lib.ListN.{length, take, drop, getD, take-append-drop}
 use borrow.Author.Tests.{eqb-true, leb-true, not-true}
 use Rattle.text.specs.Bytes.{bytes}
 use Rattle.text.specs.Pick.{pick, opt, all, same, member, among}
 use Rattle.text.specs.Reading.{heads, span, starts}
 use Rattle.text.proofs.Texts.{and-left, and-right, same-true}
 use Rattle.text.proofs.Tests.{is-le, is-ne}
-use Rattle.text.proofs.Booleans.{or-true, and-both}
+use Rattle.text.proofs.Booleans.{or-true, and-both, false-true, or-cases}
 use Rattle.text.proofs.Parts.{all-append}
 use Rattle.rules.specs.Tape.{isLetter, isRaised}
 use Rattle.rules.specs.Columns.{isBlank, blank, word, notBlank, between, filled, leftJustified, isRoot}
 use Rattle.rules.specs.Names.{texts, rootField, suffixField, temporaryField, appendageField, partText, nameText, listedSuffixes, isReserved, isPreferred, isSuffix, isTemporary, isAppendage, lawfulField, lawfulName}
 use Rattle.rules.specs.Line.{isPrintable, isNetwork}
 use Rattle.named.specs.Plain.{NamePlain}
-use Rattle.named.proofs.Root.{false-true, either}
 use Rattle.named.proofs.Parts.{each, member-each, classEnds, suffix-case}
 use Rattle.compose.specs.Columns.{firstOr, later, textField}
 use Rattle.heading.specs.Name.{endsIn, before, suffixText, withEnd, plainEnd, endsLawfully, lawfulRoot, rootCount, appendageOf, nameOn}
-use Rattle.nameable.proofs.Counts.{count-passes, take-drop, end-is}
+use Rattle.nameable.proofs.Counts.{count-passes, end-is}
 
 -- ---- a word in its columns
 
@@ -190,7 +189,7 @@ first-letter k (c ∷ w) h l = and-left (isLetter c) (all isLetter w) h
 
 -- a word is none or listed, and fits
 word-fit : (k : ℕ) (listed : List ℕ → Bool) (w : List ℕ) → ((v : List ℕ) → listed v ≡ true → fits k v ≡ true) → (same w [] || listed w) ≡ true → fits k w ≡ true
-word-fit k listed w f h = ⊎-elim (λ e. ap (fits k) (same-true w [] e) ∙ none-fits k) (λ m. f w m) (either (same w []) (listed w) h)
+word-fit k listed w f h = ⊎-elim (λ e. ap (fits k) (same-true w [] e) ∙ none-fits k) (λ m. f w m) (or-cases (same w []) (listed w) h)
 
 temporary-fit : (w : List ℕ) → isTemporary w ≡ true → fits 4 w ≡ true
 unfolding isTemporary each fits all isBlank isPrintable between
@@ -201,7 +200,7 @@ unfolding isAppendage fits all isBlank isPrintable between
 appendage-fit network w h =
     ⊎-elim (λ e. rw (same-true w (bytes "BC") (and-left (same w (bytes "BC")) (eqb network 65) e)))
     (λ e. rw (same-true w (bytes "DL") (and-left (same w (bytes "DL")) (eqb network 66) e)))
-    (either (same w (bytes "BC") && eqb network 65) (same w (bytes "DL") && eqb network 66) h)
+    (or-cases (same w (bytes "BC") && eqb network 65) (same w (bytes "DL") && eqb network 66) h)
 
 field-lawful : (k : ℕ) (listed : List ℕ → Bool) (w : List ℕ) → fits k w ≡ true → (same w [] || listed w) ≡ true → lawfulField listed (textField k w) ≡ true
 unfolding lawfulField leftJustified
@@ -316,15 +315,15 @@ one-of-five s h =
     (λ h₃. ⊎-elim (λ q. with-temporary (bytes ".Xr") (bytes "Xr") s refl refl q)
     (λ h₄. ⊎-elim (λ q. with-temporary (bytes ".N") (bytes "N") s refl refl q)
     (λ q. with-temporary (bytes ".XI") (bytes "XI") s refl refl q)
-    (either (withEnd (bytes ".N") s) (withEnd (bytes ".XI") s) h₄))
-    (either (withEnd (bytes ".Xr") s) (withEnd (bytes ".N") s || withEnd (bytes ".XI") s) h₃))
-    (either (withEnd (bytes ".XDIS") s) (withEnd (bytes ".Xr") s || (withEnd (bytes ".N") s || withEnd (bytes ".XI") s)) h₂))
-    (either (withEnd (bytes ".XD") s) (withEnd (bytes ".XDIS") s || (withEnd (bytes ".Xr") s || (withEnd (bytes ".N") s || withEnd (bytes ".XI") s))) h)
+    (or-cases (withEnd (bytes ".N") s) (withEnd (bytes ".XI") s) h₄))
+    (or-cases (withEnd (bytes ".Xr") s) (withEnd (bytes ".N") s || withEnd (bytes ".XI") s) h₃))
+    (or-cases (withEnd (bytes ".XDIS") s) (withEnd (bytes ".Xr") s || (withEnd (bytes ".N") s || withEnd (bytes ".XI") s)) h₂))
+    (or-cases (withEnd (bytes ".XD") s) (withEnd (bytes ".XDIS") s || (withEnd (bytes ".Xr") s || (withEnd (bytes ".N") s || withEnd (bytes ".XI") s))) h)
 
 plain-of : (b : Bool) (s : List ℕ) → plainEnd b s ≡ true → PlainOf b s
 unfolding plainEnd
-plain-of false s h = ⊎-elim (λ q. suffix-alone false s q) (λ q. absurd (false-true q)) (either (suffixText s) false h)
-plain-of true s h = ⊎-elim (λ q. suffix-alone true s q) (λ q. one-of-five s q) (either (suffixText s) _ h)
+plain-of false s h = ⊎-elim (λ q. suffix-alone false s q) (λ q. absurd (false-true q)) (or-cases (suffixText s) false h)
+plain-of true s h = ⊎-elim (λ q. suffix-alone true s q) (λ q. one-of-five s q) (or-cases (suffixText s) _ h)
 
 -- what follows the root
 record EndOf (b : Bool) (network : ℕ) (s : List ℕ) : Type 0 where
@@ -354,7 +353,7 @@ or-false false h = h
 
 own-listed : (network : ℕ) → isNetwork network ≡ true → (same (own network) [] || isAppendage network (own network)) ≡ true
 unfolding isNetwork among own-test
-own-listed network h = ⊎-elim (λ e. ap own-test (eqb-true network 65 e) ∙ own-a) (λ e. ap own-test (eqb-true network 66 (or-false (eqb network 66) e)) ∙ own-b) (either (eqb network 65) (eqb network 66 || false) h)
+own-listed network h = ⊎-elim (λ e. ap own-test (eqb-true network 65 e) ∙ own-a) (λ e. ap own-test (eqb-true network 66 (or-false (eqb network 66) e)) ∙ own-b) (or-cases (eqb network 65) (eqb network 66 || false) h)
 
 by-pick : (b : Bool) → partText (pick b (bytes "BC") (bytes "DL")) ≡ pick b (bytes ".BC") (bytes ".DL")
 unfolding pick partText opt isRaised among
@@ -371,7 +370,7 @@ end-of b network s n h =
     ⊎-elim
     (λ q. record { plain = s; appendage = []; plain-is = plain-of b s q; listed = refl; shown = append-nil s })
     (λ q. record { plain = before (appendageOf network) s; appendage = own network; plain-is = plain-of b (before (appendageOf network) s) (and-right (endsIn (appendageOf network) s) _ q); listed = own-listed network n; shown = ap (λ x. before (appendageOf network) s ++ x) (own-shown network) ∙ end-is (appendageOf network) s (and-left (endsIn (appendageOf network) s) _ q) })
-    (either (plainEnd b s) (endsIn (appendageOf network) s && plainEnd b (before (appendageOf network) s)) h)
+    (or-cases (plainEnd b s) (endsIn (appendageOf network) s && plainEnd b (before (appendageOf network) s)) h)
 
 joined : (root s t e plain rest : List ℕ) → s ++ t ≡ plain → plain ++ e ≡ rest → root ++ s ++ t ++ e ≡ root ++ rest
 joined root s t e plain rest h k = append-assoc (root ++ s) t e ∙ append-assoc root s (t ++ e) ∙ ap (λ x. root ++ x) (sym (append-assoc s t e) ∙ ap (λ x. x ++ e) h ∙ k)
@@ -407,5 +406,5 @@ name-built b network text n h =
       plain = built-plain network root (p .suffix) (p .temporary) (o .appendage) w;
       sized = nineteen root (p .suffix) (p .temporary) (o .appendage);
       printable = built-printable network root (p .suffix) (p .temporary) (o .appendage) w;
-      shown = built-text network root (p .suffix) (p .temporary) (o .appendage) w b ∙ joined root (partText (p .suffix)) (opt b (partText (p .temporary))) (partText (o .appendage)) (o .plain) rest (p .shown) (o .shown) ∙ take-drop (rootCount text) text;
+      shown = built-text network root (p .suffix) (p .temporary) (o .appendage) w b ∙ joined root (partText (p .suffix)) (opt b (partText (p .temporary))) (partText (o .appendage)) (o .plain) rest (p .shown) (o .shown) ∙ take-append-drop (rootCount text) text;
     }

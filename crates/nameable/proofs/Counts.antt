@@ -5,7 +5,8 @@ use mathlib.Core.Path.{_≡_, refl, sym, ap, _∙_}
 use mathlib.Core.Bool.{Bool, true, false}
 use mathlib.Core.List.{List, [], _∷_, _++_}
 use lib.Dec.{leb}
-use lib.ListN.{length, take, drop, length-append}
+use lib.ListN.{length, take, drop, length-append, take-append-drop}
+use lib.Seq.{take-append-seam, drop-append-seam}
 use Rattle.text.specs.Pick.{pick, all}
 use Rattle.text.specs.Reading.{heads}
 use Rattle.text.proofs.Texts.{and-left, and-right, same-true, same-refl}
@@ -36,21 +37,6 @@ count-passes p (suc k) (c ∷ s) = go (p c) refl (count-passes p k s)
     go : (b : Bool) → p c ≡ b → all p (take (countOf p k s) s) ≡ true → all p (take (pick b (suc (countOf p k s)) 0) (c ∷ s)) ≡ true
     go b e h = next p c s (countOf p k s) b e h
 
--- ---- fronts
-
-pub take-front : (t s : List ℕ) → take (length t) (t ++ s) ≡ t
-take-front [] s = refl
-take-front (c ∷ t) s = ap (λ x. c ∷ x) (take-front t s)
-
-pub drop-front : (t s : List ℕ) → drop (length t) (t ++ s) ≡ s
-drop-front [] s = refl
-drop-front (c ∷ t) s = drop-front t s
-
-pub take-drop : (k : ℕ) (s : List ℕ) → take k s ++ drop k s ≡ s
-take-drop zero s = refl
-take-drop (suc k) [] = refl
-take-drop (suc k) (c ∷ s) = ap (λ x. c ∷ x) (take-drop k s)
-
 -- ---- ends
 
 end-start : (s e : List ℕ) → length (s ++ e) - length e ≡ length s
@@ -60,13 +46,13 @@ pub ends-yes : (s e : List ℕ) → endsIn e (s ++ e) ≡ true
 unfolding endsIn
 ends-yes s e =
     let a : leb (length e) (length (s ++ e)) ≡ true = sym (is-le (length e) (length (s ++ e)) (rw (length-append s e) (omega arith))) in
-    rw (a, end-start s e, drop-front s e) (same-refl e)
+    rw (a, end-start s e, drop-append-seam s e) (same-refl e)
 
 pub before-end : (s e : List ℕ) → before e (s ++ e) ≡ s
-before-end s e = rw (end-start s e) (take-front s e)
+before-end s e = rw (end-start s e) (take-append-seam s e)
 
 pub end-is : (e s : List ℕ) → endsIn e s ≡ true → before e s ++ e ≡ s
 unfolding endsIn
 end-is e s h =
     let a = same-true (drop (length s - length e) s) e (and-right (leb (length e) (length s)) _ h) in
-    ap (λ x. take (length s - length e) s ++ x) (sym a) ∙ take-drop (length s - length e) s
+    ap (λ x. take (length s - length e) s ++ x) (sym a) ∙ take-append-drop (length s - length e) s

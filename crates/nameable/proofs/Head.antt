@@ -6,15 +6,15 @@ use mathlib.Core.Logic.{_⊎_, ⊎-elim}
 use mathlib.Core.Bool.{Bool, true, false, _&&_, _||_, not}
 use mathlib.Core.List.{List, [], _∷_, _++_, append-nil}
 use lib.Dec.{eqb}
-use lib.ListN.{length, take, drop, length-append, length-take}
-use lib.Seq.{take-take}
+use lib.ListN.{length, take, drop, length-append, length-take, take-append-drop}
+use lib.Seq.{take-take, take-append-seam, drop-append-seam}
 use borrow.Author.Tests.{eqb-true}
 use Rattle.text.specs.Bytes.{bytes}
 use Rattle.text.specs.Pick.{pick, opt, same, among}
 use Rattle.text.specs.Reading.{Read, found, before, heads, starts}
 use Rattle.text.proofs.Texts.{same-true}
 use Rattle.text.proofs.Parts.{all-append}
-use Rattle.text.proofs.Booleans.{or-true}
+use Rattle.text.proofs.Booleans.{or-true, false-true, or-cases}
 use Rattle.rules.specs.Tape.{isUpper}
 use Rattle.rules.specs.Names.{nameText}
 use Rattle.rules.specs.Conditions.{afterName}
@@ -22,7 +22,6 @@ use Rattle.rules.specs.Line.{isNetwork}
 use Rattle.rules.specs.declared.Letters.{Letters}
 use Rattle.named.specs.Plain.{NamePlain}
 use Rattle.named.specs.Cut.{isAfter, cut, oneSold}
-use Rattle.named.proofs.Root.{false-true, either}
 use Rattle.named.proofs.Parts.{front-is}
 use Rattle.named.proofs.Back.{name-upper, name-cut, conditions-upper}
 use Rattle.heading.specs.Name.{nameOn}
@@ -33,7 +32,7 @@ use Rattle.heading.specs.declared.NameRead.{NameRead}
 use Rattle.heading.specs.declared.NameAnswer.{NameAnswer}
 use Rattle.heading.specs.declared.NameAnswer.the-variants.{Named, NoName}
 use Rattle.heading.proofs.Count.{name-within, count-within}
-use Rattle.nameable.proofs.Counts.{count-all, take-front, drop-front, take-drop}
+use Rattle.nameable.proofs.Counts.{count-all}
 use Rattle.nameable.proofs.Lawful.{name-lawful}
 use Rattle.symbol.proofs.Text.{name-most}
 
@@ -154,8 +153,8 @@ on-one : (temporary : Bool) (network : ℕ) (text : List ℕ) → isNetwork netw
 unfolding isNetwork among
 on-one temporary network text n h =
     ⊎-elim (λ e. rw (ap (λ k. nameOn temporary k text) (sym (eqb-true network 65 e)) ∙ h))
-    (λ e. ⊎-elim (λ f. rw (ap (λ k. nameOn temporary k text) (sym (eqb-true network 66 f)) ∙ h) (or-true (nameOn temporary 65 text))) (λ f. absurd (false-true f)) (either (eqb network 66) false e))
-    (either (eqb network 65) (eqb network 66 || false) n)
+    (λ e. ⊎-elim (λ f. rw (ap (λ k. nameOn temporary k text) (sym (eqb-true network 66 f)) ∙ h) (or-true (nameOn temporary 65 text))) (λ f. absurd (false-true f)) (or-cases (eqb network 66) false e))
+    (or-cases (eqb network 65) (eqb network 66 || false) n)
 
 module _ (temporary : Bool) (network : ℕ) (name : List ℕ) (n : isNetwork network ≡ true) (h : NamePlain network name) (x : Letters) (z : x .n ≡ false) (o : oneSold x ≡ true) where
   head-short : length (nameText temporary name ++ afterName x) ≤ 35
@@ -166,14 +165,14 @@ module _ (temporary : Bool) (network : ℕ) (name : List ℕ) (n : isNetwork net
 
   in-run : inRun temporary (nameText temporary name ++ afterName x) ≡ Named (headRead temporary (nameText temporary name) x)
   unfolding inRun headRead namedBy pick
-  in-run = rw (count-name, take-front (nameText temporary name) (afterName x), drop-front (nameText temporary name) (afterName x), after-back x z o, on-one temporary network (nameText temporary name) n (name-lawful temporary network name h))
+  in-run = rw (count-name, take-append-seam (nameText temporary name) (afterName x), drop-append-seam (nameText temporary name) (afterName x), after-back x z o, on-one temporary network (nameText temporary name) n (name-lawful temporary network name h))
 
   pub head-found : (s : List ℕ) → heads isUpper s ≡ false → headAt temporary ((nameText temporary name ++ afterName x) ++ s) ≡ Named (headRead temporary (nameText temporary name) x)
   unfolding headAt
   head-found s l =
       let t = nameText temporary name ++ afterName x in
       let u = all-append isUpper (nameText temporary name) (afterName x) (name-upper network name h temporary) (conditions-upper x) in
-      rw (count-all isUpper 35 t s u head-short l, take-front t s) in-run
+      rw (count-all isUpper 35 t s u head-short l, take-append-seam t s) in-run
 
 -- ---- what is found stands there
 
@@ -233,7 +232,7 @@ module _ (temporary : Bool) (s : List ℕ) where
       record {
         within = omega (run-length, count-within isUpper 35 s, arith);
         short = omega (named-length, name-within run, arith);
-        text = g ∙ sym (take-drop (nameCount run) run) ∙ ap (λ z. named ++ z) (t .text) ∙ ap (λ z. z ++ afterName x) (sym f);
+        text = g ∙ sym (take-append-drop (nameCount run) run) ∙ ap (λ z. named ++ z) (t .text) ∙ ap (λ z. z ++ afterName x) (sym f);
         on-a = ap (nameOn temporary 65) (sym f);
         on-b = ap (nameOn temporary 66) (sym f);
         one = o;

@@ -7,23 +7,24 @@ use mathlib.Core.List.{List, [], _∷_, _++_, append-assoc, append-nil}
 use lib.Dec.{eqb, leb, ltb}
 use mathlib.Core.Logic.{_⊎_, ⊎-elim}
 use lib.ListN.{length, length-take}
+use lib.Seq.{take-append-seam, drop-append-seam}
 use borrow.Author.Tests.{eqb-true, ltb-true}
 use Rattle.text.specs.Bytes.{bytes}
 use Rattle.text.specs.Pick.{pick, opt, all, same, member, among}
 use Rattle.text.specs.Reading.{heads}
 use Rattle.text.proofs.Texts.{and-left, and-right, same-true}
 use Rattle.text.proofs.Tests.{is-le, is-nle}
-use Rattle.text.proofs.Booleans.{and-false, or-true}
+use Rattle.text.proofs.Booleans.{and-false, or-true, false-true, or-cases}
 use Rattle.rules.specs.Tape.{isLetter, isRaised}
 use Rattle.rules.specs.Columns.{word, between, leftJustified}
 use Rattle.rules.specs.Names.{rootField, suffixField, temporaryField, appendageField, partText, nameText, isReserved, isSuffix, isTemporary, isAppendage, lawfulField, lawfulName}
 use Rattle.rules.proofs.Fields.{word-short}
 use Rattle.named.specs.Plain.{NamePlain}
-use Rattle.named.proofs.Root.{false-true, either, root-text}
+use Rattle.named.proofs.Root.{root-text}
 use Rattle.named.proofs.Parts.{among-each}
 use Rattle.named.proofs.Back.{name-parts, heads-some}
 use Rattle.heading.specs.Name.{suffixText, withEnd, plainEnd, endsLawfully, lawfulRoot, rootCount, appendageOf, nameOn}
-use Rattle.nameable.proofs.Counts.{count-all, take-front, drop-front, ends-yes, before-end}
+use Rattle.nameable.proofs.Counts.{count-all, ends-yes, before-end}
 
 -- ---- suffix
 
@@ -89,17 +90,17 @@ module _ (s : List ℕ) (h : suffixText s ≡ true) where
       (λ m₄. ⊎-elim (λ q. rw (same-true t (bytes "N") q) shown-n)
       (λ m₅. ⊎-elim (λ q. rw (same-true t (bytes "XI") q) shown-xi)
       (λ q. absurd (false-true q))
-      (either (same t (bytes "XI")) false m₅))
-      (either (same t (bytes "N")) (same t (bytes "XI") || false) m₄))
-      (either (same t (bytes "Xr")) (same t (bytes "N") || (same t (bytes "XI") || false)) m₃))
-      (either (same t (bytes "XDIS")) (same t (bytes "Xr") || (same t (bytes "N") || (same t (bytes "XI") || false))) m₂))
-      (either (same t (bytes "XD")) (same t (bytes "XDIS") || (same t (bytes "Xr") || (same t (bytes "N") || (same t (bytes "XI") || false)))) m)
+      (or-cases (same t (bytes "XI")) false m₅))
+      (or-cases (same t (bytes "N")) (same t (bytes "XI") || false) m₄))
+      (or-cases (same t (bytes "Xr")) (same t (bytes "N") || (same t (bytes "XI") || false)) m₃))
+      (or-cases (same t (bytes "XDIS")) (same t (bytes "Xr") || (same t (bytes "N") || (same t (bytes "XI") || false))) m₂))
+      (or-cases (same t (bytes "XD")) (same t (bytes "XDIS") || (same t (bytes "Xr") || (same t (bytes "N") || (same t (bytes "XI") || false)))) m)
 
 -- a temporary suffix as a name shows it: nothing, or one of five, on trades
 temporary-passes : (temporary : Bool) (s t : List ℕ) → suffixText s ≡ true → (same t [] || isTemporary t) ≡ true → plainEnd temporary (s ++ opt temporary (partText t)) ≡ true
 unfolding opt plainEnd
 temporary-passes false s t h k = rw (append-nil s, h)
-temporary-passes true s t h k = ⊎-elim (λ e. none-there s t h (same-true t [] e)) (λ m. some-there s h t m) (either (same t []) (isTemporary t) k)
+temporary-passes true s t h k = ⊎-elim (λ e. none-there s t h (same-true t [] e)) (λ m. some-there s h t m) (or-cases (same t []) (isTemporary t) k)
 
 not-a : (network : ℕ) → eqb network 66 ≡ true → eqb network 65 ≡ false
 not-a network h = ap (λ n. eqb n 65) (eqb-true network 66 h)
@@ -110,12 +111,12 @@ own-there temporary network s t h m =
     ⊎-elim
     (λ q. rw (same-true t (bytes "BC") (and-left (same t (bytes "BC")) (eqb network 65) q), and-right (same t (bytes "BC")) (eqb network 65) q, ends-yes s (bytes ".BC"), before-end s (bytes ".BC"), h, or-true))
     (λ q. rw (same-true t (bytes "DL") (and-left (same t (bytes "DL")) (eqb network 66) q), not-a network (and-right (same t (bytes "DL")) (eqb network 66) q), ends-yes s (bytes ".DL"), before-end s (bytes ".DL"), h, or-true))
-    (either (same t (bytes "BC") && eqb network 65) (same t (bytes "DL") && eqb network 66) m)
+    (or-cases (same t (bytes "BC") && eqb network 65) (same t (bytes "DL") && eqb network 66) m)
 
 -- the appendage of the network, or none
 appendage-passes : (temporary : Bool) (network : ℕ) (s t : List ℕ) → plainEnd temporary s ≡ true → (same t [] || isAppendage network t) ≡ true → endsLawfully temporary (appendageOf network) (s ++ partText t) ≡ true
 unfolding endsLawfully partText
-appendage-passes temporary network s t h k = ⊎-elim (λ e. rw (same-true t [] e, append-nil s, h)) (λ m. own-there temporary network s t h m) (either (same t []) (isAppendage network t) k)
+appendage-passes temporary network s t h k = ⊎-elim (λ e. rw (same-true t [] e, append-nil s, h)) (λ m. own-there temporary network s t h m) (or-cases (same t []) (isAppendage network t) k)
 
 -- ---- the name
 
@@ -183,4 +184,4 @@ name-lawful temporary network name h =
     let w = appendage-passes temporary network (s ++ t) (word (appendageField name)) v (lawful-word (isAppendage network) (appendageField name) (and-right q a (and-right p (q && a) l))) in
     let x : nameText temporary name ≡ root ++ ((s ++ t) ++ e) = name-parts network name h temporary ∙ ap (λ z. root ++ z) (sym (append-assoc s t e)) in
     let c : rootCount (root ++ ((s ++ t) ++ e)) ≡ length root = count-all isLetter 7 root ((s ++ t) ++ e) (root-text (rootField name) (h .root) .1) (root-short name) (rest-low temporary (word (suffixField name)) (word (temporaryField name)) (word (appendageField name))) in
-    rw (x, c, take-front root ((s ++ t) ++ e), drop-front root ((s ++ t) ++ e), w, lawful-root name (and-left r (p && (q && a)) (h .lawful)) (root-text (rootField name) (h .root) .0))
+    rw (x, c, take-append-seam root ((s ++ t) ++ e), drop-append-seam root ((s ++ t) ++ e), w, lawful-root name (and-left r (p && (q && a)) (h .lawful)) (root-text (rootField name) (h .root) .0))

@@ -17,9 +17,10 @@ use Rattle.rules.specs.Columns.{word}
 use Rattle.rules.specs.Names.{rootField, suffixField, temporaryField, appendageField, partText, nameText, isReserved, isSuffix, isTemporary, isAppendage, lawfulField, lawfulName}
 use Rattle.rules.specs.Conditions.{afterName}
 use Rattle.rules.specs.declared.Letters.{Letters}
+use Rattle.text.proofs.Booleans.{false-true}
 use Rattle.named.specs.Plain.{NamePlain}
 use Rattle.named.specs.Cut.{isAfter, cut, Sold, plain, opened, sold, last, soldText, after, afterText, firstOf, readAfter, divide, soldOf, afterOf, oneSold}
-use Rattle.named.proofs.Root.{false-true, root-text}
+use Rattle.named.proofs.Root.{root-text}
 use Rattle.named.proofs.Parts.{letters-upper, ends, clean, clean-append, clean-root, cut-clean, sound, soundDotted, suffix-sound, temporary-sound, appendage-sound}
 
 -- ---- the parts of a name, one after another

@@ -10,8 +10,8 @@ use Rattle.text.specs.Pick.{pick, among}
 use Rattle.text.proofs.Texts.{and-left, and-right}
 use Rattle.rules.specs.Columns.{word}
 use Rattle.rules.specs.Conditions.{lettersIn, unrepeated, noneOf, atMostOne, lawfulLetters}
+use Rattle.text.proofs.Booleans.{false-true}
 use Rattle.named.specs.Cut.{oneSold}
-use Rattle.named.proofs.Root.{false-true}
 
 -- two letters of which one is of the group are not the same
 apart : (g : List ℕ) (c x : ℕ) → among c g ≡ true → among x g ≡ false → eqb c x ≡ false

@@ -12,12 +12,12 @@ use Rattle.text.specs.Pick.{pick, opt, all, same, among, member}
 use Rattle.text.specs.Reading.{found, before, starts}
 use Rattle.text.proofs.Texts.{and-left, and-right, same-true}
 use Rattle.text.proofs.Parts.{all-append}
-use Rattle.text.proofs.Booleans.{and-both}
+use Rattle.text.proofs.Booleans.{and-both, false-true, or-cases}
 use Rattle.rules.specs.Tape.{isLetter, isUpper, isRaised}
 use Rattle.rules.specs.Columns.{word, leftJustified}
 use Rattle.rules.specs.Names.{texts, partText, listedSuffixes, isClass, isSeries, isPreferred, isSuffix, isTemporary, isAppendage, lawfulField}
 use Rattle.named.specs.Cut.{isAfter, cut}
-use Rattle.named.proofs.Root.{false-true, either, letter-not-dot}
+use Rattle.named.proofs.Root.{letter-not-dot}
 
 -- ---- bytes that pass
 
@@ -92,13 +92,13 @@ pub member-each : (f : List ℕ → Bool) (l : List (List ℕ)) (s : List ℕ) �
 unfolding member each
 member-each f [] s h m = absurd (false-true m)
 member-each f (x ∷ l) s h m =
-    ⊎-elim (λ e. rw (same-true s x e) (and-left (f x) (each f l) h)) (λ k. member-each f l s (and-right (f x) (each f l) h) k) (either (same s x) (member s l) m)
+    ⊎-elim (λ e. rw (same-true s x e) (and-left (f x) (each f l) h)) (λ k. member-each f l s (and-right (f x) (each f l) h) k) (or-cases (same s x) (member s l) m)
 
 pub among-each : (g : ℕ → Bool) (l : List ℕ) (c : ℕ) → all g l ≡ true → among c l ≡ true → g c ≡ true
 unfolding among all
 among-each g [] c h m = absurd (false-true m)
 among-each g (x ∷ l) c h m =
-    ⊎-elim (λ e. rw (eqb-true c x e) (and-left (g x) (all g l) h)) (λ k. among-each g l c (and-right (g x) (all g l) h) k) (either (eqb c x) (among c l) m)
+    ⊎-elim (λ e. rw (eqb-true c x e) (and-left (g x) (all g l) h)) (λ k. among-each g l c (and-right (g x) (all g l) h) k) (or-cases (eqb c x) (among c l) m)
 
 pub front-is : (p s : List ℕ) → starts p s ≡ true → s ≡ p ++ drop (length p) s
 unfolding starts
@@ -125,7 +125,7 @@ series-case f k (c ∷ e) h =
 -- a suffix is listed, or of a family: what holds of these holds of every suffix
 pub suffix-case : (f : List ℕ → Bool) → each f listedSuffixes ≡ true → ((c : ℕ) (e : List ℕ) → isLetter c ≡ true → member e classEnds ≡ true → f (112 ∷ c ∷ e) ≡ true) → ((c : ℕ) → isLetter c ≡ true → f (112 ∷ 67 ∷ c ∷ []) ≡ true) → (s : List ℕ) → isSuffix s ≡ true → f s ≡ true
 unfolding isSuffix isPreferred
-suffix-case f l k m s h = ⊎-elim (λ e. member-each f listedSuffixes s l e) (λ p. ⊎-elim (λ q. class q) (λ q. series q) (either (starts (bytes "p") s && isClass (drop 1 s)) (starts (bytes "pC") s && isSeries (drop 2 s)) p)) (either (member s listedSuffixes) (isPreferred s) h)
+suffix-case f l k m s h = ⊎-elim (λ e. member-each f listedSuffixes s l e) (λ p. ⊎-elim (λ q. class q) (λ q. series q) (or-cases (starts (bytes "p") s && isClass (drop 1 s)) (starts (bytes "pC") s && isSeries (drop 2 s)) p)) (or-cases (member s listedSuffixes) (isPreferred s) h)
   where
     class : (starts (bytes "p") s && isClass (drop 1 s)) ≡ true → f s ≡ true
     class q =
@@ -142,7 +142,7 @@ pub field-case : (f listed : List ℕ → Bool) → f [] ≡ true → ((s : List
 unfolding lawfulField
 field-case f listed n k field h =
     ⊎-elim (λ e. rw (same-true (word field) [] e) n) (λ m. k (word field) m)
-    (either (same (word field) []) (listed (word field)) (and-right (leftJustified field) (same (word field) [] || listed (word field)) h))
+    (or-cases (same (word field) []) (listed (word field)) (and-right (leftJustified field) (same (word field) [] || listed (word field)) h))
 
 -- ---- the parts of a name
 
@@ -194,4 +194,4 @@ appendage-sound network field h = field-case soundDotted (isAppendage network) r
     one s m =
         ⊎-elim (λ e. rw (same-true s (bytes "BC") (and-left (same s (bytes "BC")) (eqb network 65) e)))
         (λ e. rw (same-true s (bytes "DL") (and-left (same s (bytes "DL")) (eqb network 66) e)))
-        (either (same s (bytes "BC") && eqb network 65) (same s (bytes "DL") && eqb network 66) m)
+        (or-cases (same s (bytes "BC") && eqb network 65) (same s (bytes "DL") && eqb network 66) m)

@@ -14,16 +14,8 @@ use Rattle.text.proofs.Texts.{and-left, and-right}
 use Rattle.rules.specs.Tape.{isLetter}
 use Rattle.rules.specs.Columns.{isBlank, blank, word, filled, isRoot}
 use Rattle.rules.proofs.Fields.{word-blank, word-byte}
+use Rattle.text.proofs.Booleans.{false-true}
 use Rattle.words.proofs.Fields.{word-nothing}
-
--- ---- tests
-
-pub false-true : false ≡ true → ⊥
-false-true h = let z : _≡_ {A = ℕ} 0 1 = cc in omega arith
-
-pub either : (a b : Bool) → (a || b) ≡ true → (a ≡ true) ⊎ (b ≡ true)
-either true b h = inl refl
-either false b h = inr h
 
 -- ---- letters
 

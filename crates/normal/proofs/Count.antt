@@ -12,7 +12,7 @@ use Rattle.text.specs.Pick.{pick, among}
 use Rattle.text.specs.Reading.{span}
 use Rattle.text.proofs.Texts.{and-left, and-right}
 use Rattle.text.proofs.Tests.{is-le}
-use Rattle.text.proofs.Booleans.{or-left, or-right}
+use Rattle.text.proofs.Booleans.{or-left, or-right, eqb-flip}
 use Rattle.text.proofs.Parts.{span-short}
 use Rattle.rules.specs.Columns.{word, notBlank}
 use Rattle.rules.specs.Conditions.{lettersIn, unrepeated}
@@ -39,17 +39,10 @@ unfolding counted hits among
 counted-more [] b w = omega arith
 counted-more (c ∷ l) b w = omega (one-or (eqb c b) (among c w), counted-more l b w, arith)
 
-pub flip : (c d : ℕ) → eqb c d ≡ false → eqb d c ≡ false
-flip c d h = go (eqb d c) refl
-  where
-    go : (t : Bool) → eqb d c ≡ t → t ≡ false
-    go true e = absurd (eqb-false c d h (sym (eqb-true d c e)))
-    go false e = refl
-
 no-hit : (b : ℕ) (l : List ℕ) → among b l ≡ false → hits b l ≡ 0
 unfolding hits among pick
 no-hit b [] h = refl
-no-hit b (c ∷ l) h = rw (flip b c (or-left (eqb b c) (among b l) h), no-hit b l (or-right (eqb b c) (among b l) h))
+no-hit b (c ∷ l) h = rw (eqb-flip b c (or-left (eqb b c) (among b l) h), no-hit b l (or-right (eqb b c) (among b l) h))
 
 hit-once : (b c : ℕ) (l : List ℕ) → eqb c b ≡ true → among c l ≡ false → one (eqb c b) + hits b l ≤ 1
 unfolding pick

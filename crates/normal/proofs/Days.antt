@@ -9,7 +9,7 @@ use mathlib.Core.Option.{Option, none, some}
 use lib.ListN.{getD, set, length-set, length-replicate, getD-replicate}
 use lib.Seq.{getD-set-same, getD-set-other}
 use Rattle.text.proofs.Texts.{and-left}
-use Rattle.text.proofs.Booleans.{same-or-not}
+use Rattle.text.proofs.Booleans.{same-or-not, false-true}
 use Rattle.rules.specs.Columns.{between, columns, numberIn, valueOf}
 use Rattle.rules.specs.Line.{isSecurityNumber, lineOf, nameColumns, listingOf, tradeRanged, tradeOf, correctionRanged, correctionOf}
 use Rattle.rules.specs.Trade.{afterTrade}
@@ -22,7 +22,6 @@ use Rattle.rules.specs.declared.Security.{Security}
 use Rattle.rules.specs.declared.Settings.{Settings}
 use Rattle.rules.proofs.Days.{entered-alike, none-there}
 use Rattle.rules.proofs.Fields.{security-number}
-use Rattle.named.proofs.Root.{false-true}
 use Rattle.compose.specs.Shown.{Enterable}
 use Rattle.normal.specs.Invariant.{Invariant}
 use Rattle.normal.proofs.Views.{accepted-is, Of, of-date, of-listing, of-mode, of-level, of-step, of-trade, of-cancel, of-error, of-correction, of-line}

@@ -24,7 +24,7 @@ use Rattle.rules.specs.declared.Refusal.the-variants.{InUse, Name, Room}
 use Rattle.rules.proofs.Days.{none-there, passed}
 use Rattle.rules.proofs.Fields.{security-number}
 use Rattle.rules.specs.Sizes.{width}
-use Rattle.named.proofs.Root.{false-true}
+use Rattle.text.proofs.Booleans.{false-true}
 use Rattle.compose.specs.Shown.{Enterable}
 use Rattle.compose.specs.Printable.{Printable}
 use Rattle.compose.proofs.Below.{root-columns}

@@ -22,8 +22,8 @@ use Rattle.rules.specs.declared.Number.{Number}
 use Rattle.rules.specs.declared.Number.the-variants.{Blank, Bad, Is}
 use Rattle.rules.specs.declared.Letters.{Letters}
 use Rattle.rules.specs.declared.Side.{Side}
+use Rattle.text.proofs.Booleans.{false-true}
 use Rattle.named.specs.Cut.{oneSold}
-use Rattle.named.proofs.Root.{false-true}
 use Rattle.named.proofs.Letters.{at-most-one, lawful-one-sold}
 use Rattle.compose.specs.Shown.{letterCount, oneDelivery, showable, Showable}
 use Rattle.widths.proofs.Below.{number-below}

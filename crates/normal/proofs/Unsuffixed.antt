@@ -11,7 +11,7 @@ use Rattle.text.proofs.Parts.{all-append, all-take, all-drop}
 use Rattle.rules.specs.Columns.{between, word, blank, isBlank, filled, leftJustified, isRoot}
 use Rattle.rules.specs.Line.{isPrintable}
 use Rattle.rules.specs.Names.{rootField, suffixField, temporaryField, appendageField, partText, nameText, lawfulField, lawfulName, isReserved, isSuffix, isTemporary, isAppendage}
-use Rattle.named.proofs.Root.{false-true}
+use Rattle.text.proofs.Booleans.{false-true}
 use Rattle.compose.specs.Shown.{Enterable}
 
 -- a name of 19 columns

@@ -36,7 +36,7 @@ use Rattle.rules.specs.declared.Refusal.the-variants.{Shape, Kind, NoDate, Form
 use Rattle.rules.specs.declared.Security.{Security}
 use Rattle.rules.proofs.Days.{passed}
 use Rattle.rules.proofs.Fields.{security-number}
-use Rattle.named.proofs.Root.{false-true}
+use Rattle.text.proofs.Booleans.{false-true}
 use Rattle.compose.specs.Shown.{Enterable, Showable}
 use Rattle.compose.specs.Printable.{partIn, Printable, by-mode, by-level, by-trade, by-cancel, by-error, by-correction}
 use Rattle.normal.specs.Shown.{shownSide}

@@ -16,7 +16,7 @@ use Rattle.rules.specs.declared.Mode.the-variants.{Normal}
 use Rattle.rules.specs.declared.Line.{Line}
 use Rattle.rules.specs.declared.Line.the-variants.{Dated, Listed, Moded, Leveled, Stepped, Traded, Cancelled, Erred, Corrected}
 use Rattle.rules.specs.declared.Refusal.{Refusal}
-use Rattle.named.proofs.Root.{false-true}
+use Rattle.text.proofs.Booleans.{false-true}
 use Rattle.compose.proofs.Prints.{printable-normal}
 use Rattle.normal.specs.Invariant.{Invariant}
 use Rattle.normal.proofs.Views.{day-printable}

@@ -6,8 +6,16 @@ use mathlib.Core.Logic.{_⊎_, inl, inr}
 use mathlib.Core.Bool.{Bool, true, false, _&&_, _||_, not}
 use lib.Dec.{eqb}
 use borrow.Author.Tests.{eqb-true, eqb-false}
+use Rattle.text.specs.Pick.{pick}
+
+pub false-true : false ≡ true → ⊥
+false-true h = let z : _≡_ {A = ℕ} 0 1 = cc in omega arith
 
 -- ---- both
+
+pub and-true : (b : Bool) → (b && true) ≡ b
+and-true true = refl
+and-true false = refl
 
 pub and-false : (b : Bool) → (b && false) ≡ false
 and-false true = refl
@@ -48,12 +56,31 @@ or-right false b h = h
 pub neither : (a b : Bool) → (a || b) ≡ false → (a ≡ false) × (b ≡ false)
 neither a b h = (or-left a b h, or-right a b h)
 
+pub or-cases : (a b : Bool) → (a || b) ≡ true → (a ≡ true) ⊎ (b ≡ true)
+or-cases true b h = inl refl
+or-cases false b h = inr h
+
 -- the first asks for the second
 pub implied : (a b : Bool) → a ≡ true → (not a || b) ≡ true → b ≡ true
 implied true b e h = h
 implied false b e h = cc
 
+-- ---- a choice
+
+-- what holds of each, where it is chosen, holds of the choice
+pub pick-cases : {A : Type 0} (P : A → Type 0) (b : Bool) (x y : A) → (b ≡ true → P x) → (b ≡ false → P y) → P (pick b x y)
+unfolding pick
+pick-cases P true x y f g = f refl
+pick-cases P false x y f g = g refl
+
 -- ---- numbers
+
+pub eqb-flip : (c d : ℕ) → eqb c d ≡ false → eqb d c ≡ false
+eqb-flip c d h = go (eqb d c) refl
+  where
+    go : (t : Bool) → eqb d c ≡ t → t ≡ false
+    go true e = absurd (eqb-false c d h (sym (eqb-true d c e)))
+    go false e = refl
 
 pub same-or-not : (i j : ℕ) → (i ≡ j) ⊎ (i ≡ j → ⊥)
 same-or-not i j = go (eqb i j) refl

@@ -11,7 +11,7 @@ use lib.ListN.{length, getD, set, replicate, length-set, length-replicate, getD-
 use lib.Seq.{getD-set-same, getD-set-other}
 use borrow.Author.Tests.{eqb-true, eqb-false, eq-eqb, ne-eqb}
 use Rattle.text.specs.Pick.{same}
-use Rattle.text.proofs.Booleans.{neither, same-or-not}
+use Rattle.text.proofs.Booleans.{neither, same-or-not, false-true}
 use Rattle.rules.specs.Names.{nameText, sameName}
 use Rattle.rules.specs.Day.{Day, vacant, noName, cleared, fresh, securityAt, isEntered, takenName, entered, withSettings, withSecurity, afterLine}
 use Rattle.rules.specs.Trade.{afterTrade}
@@ -23,7 +23,6 @@ use Rattle.rules.specs.declared.Line.{Line}
 use Rattle.rules.specs.declared.Line.the-variants.{Dated, Listed, Moded, Leveled, Stepped, Traded, Cancelled, Erred, Corrected}
 use Rattle.rules.proofs.Days.{entered-alike}
 use Rattle.named.specs.Plain.{NamePlain}
-use Rattle.named.proofs.Root.{false-true}
 use Rattle.wholeday.specs.Accepted.{AcceptedListing, Accepted}
 use Rattle.wholeday.specs.Invariant.{atPlace, named, Invariant, Later}
 

@@ -19,7 +19,6 @@ use Rattle.rules.specs.declared.Line.{Line}
 use Rattle.rules.specs.declared.Line.the-variants.{Listed}
 use Rattle.rules.specs.declared.Parsed.{Parsed}
 use Rattle.rules.specs.declared.Refusal.{Refusal}
-use Rattle.named.proofs.Root.{false-true}
 use Rattle.wholeday.specs.Accepted.{AcceptedListing, Accepted}
 use Rattle.wholeday.specs.Invariant.{atPlace, named, Invariant, Later}
 use Rattle.wholeday.specs.Decodes.{Decodes, AllDecode, dayAfter}
@@ -27,7 +26,7 @@ use Rattle.wholeday.specs.Claim.{accepts, acceptedOf}
 use Rattle.wholeday.proofs.Accepted.{fine}
 use Rattle.wholeday.proofs.Kept.{NotDate, NotListed, kept-line, later-same, later-trans, entered-now, named-now, entered-before, entered-same}
 use Rattle.wholeday.proofs.Prints.{line-owed}
-use Rattle.text.proofs.Booleans.{same-or-not}
+use Rattle.text.proofs.Booleans.{same-or-not, false-true}
 
 -- ---- one call, refused or accepted
 

@@ -33,11 +33,11 @@ use Rattle.rules.specs.declared.Line.{Line}
 use Rattle.rules.specs.declared.Line.the-variants.{Dated, Listed, Moded, Leveled, Stepped, Traded, Cancelled, Erred, Corrected}
 use Rattle.rules.specs.declared.Settings.{Settings}
 use Rattle.rules.specs.declared.Security.{Security}
+use Rattle.text.proofs.Booleans.{false-true}
 use Rattle.volumes.specs.Reading.{unsaid, shownOf}
 use Rattle.prices.specs.Reading.{shownPrice}
 use Rattle.announcement.specs.Reading.{Told, minimum}
 use Rattle.named.specs.Plain.{NamePlain}
-use Rattle.named.proofs.Root.{false-true}
 use Rattle.named.proofs.Back.{name-head}
 use Rattle.decoder.specs.Carried.{printedOf, carriedOf, next}
 use Rattle.decoder.specs.Decode.{Names, isNameOf, nameIn, priceBy, volumeBy, there, decode}

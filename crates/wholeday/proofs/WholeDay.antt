@@ -19,9 +19,9 @@ use Rattle.rules.specs.Shown.{factOf, shownBy, shown}
 use Rattle.rules.specs.Premise.{Premise}
 use Rattle.rules.specs.declared.Line.the-variants.{Dated}
 use Rattle.rules.specs.declared.Refusal.{Refusal}
+use Rattle.text.proofs.Booleans.{false-true}
 use Rattle.decoder.specs.Carried.{Carried, carriedOf}
 use Rattle.decoder.specs.Decode.{Names}
-use Rattle.named.proofs.Root.{false-true}
 use Rattle.calls.specs.Run.{Lent, callOf, tapeFrom}
 use Rattle.calls.proofs.Runs.{fresh-run}
 use Rattle.calls.proofs.Early.{dated, is-date}
