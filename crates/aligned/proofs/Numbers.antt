@@ -13,17 +13,13 @@ use borrow.Author.Tests.{eq-eqb, ne-eqb, eqb-true, leb-true, leb-false, le-leb, 
 use Rattle.text.specs.Pick.{pick}
 use Rattle.text.specs.Reading.{isDigit}
 use Rattle.text.proofs.Texts.{and-left, and-right}
-use Rattle.text.proofs.Booleans.{and-false, and-both}
+use Rattle.text.proofs.Booleans.{and-false, and-both, or-other, and-true}
 use Rattle.rules.specs.declared.Number.the-variants.{Is}
 use Rattle.rules.specs.Columns.{isBlank, justified, digitsFrom, numeral, numberIn, between}
 use Rattle.aligned.specs.Columns.{goesOn, stands, worthOf, fits, formed, begins, placed}
 use Rattle.text.proofs.Parts.{take-within}
 
 -- ---- what stands in a column
-
-either : (a b : Bool) → (a || b) ≡ true → b ≡ false → a ≡ true
-either true b h e = refl
-either false b h e = cc
 
 -- behind a digit: a digit
 from-zero : (c : ℕ) → goesOn false 57 c ≡ true → (48 ≤ c) × (c ≤ 57)
@@ -33,14 +29,14 @@ from-zero c h = go (eqb c 48) refl
     go : (b : Bool) → eqb c 48 ≡ b → (48 ≤ c) × (c ≤ 57)
     go true e = let z = eqb-true c 48 e in (omega arith, omega arith)
     go false e =
-        let k = either (leb 48 c && leb c 57) (eqb c 48) h e in
+        let k = or-other (leb 48 c && leb c 57) (eqb c 48) h e in
         (leb-true 48 c (and-left (leb 48 c) (leb c 57) k), leb-true c 57 (and-right (leb 48 c) (leb c 57) k))
 
 -- behind a blank, where no blank stands: 1 to 9
 from-one : (c : ℕ) → goesOn true 57 c ≡ true → eqb c 32 ≡ false → (49 ≤ c) × (c ≤ 57)
 unfolding goesOn between pick
 from-one c h e =
-    let k = either (leb 49 c && leb c 57) (eqb c 32) h e in
+    let k = or-other (leb 49 c && leb c 57) (eqb c 32) h e in
     (leb-true 49 c (and-left (leb 49 c) (leb c 57) k), leb-true c 57 (and-right (leb 49 c) (leb c 57) k))
 
 -- ---- numbers
@@ -190,10 +186,6 @@ at-most-one r false h = omega arith
 pub all-formed : (fs ms s : List ℕ) (bad i : ℕ) (x : Bool) → (eqb bad 0 && formed (drop i fs) (drop i ms) (getD s i 0) (drop (i + 1) s)) ≡ x → length fs ≤ i → eqb bad 0 ≡ x
 unfolding formed
 all-formed fs ms s bad i x e h = sym (and-true (eqb bad 0)) ∙ (rw (drop-of-length-le fs h) at e)
-  where
-    and-true : (b : Bool) → (b && true) ≡ b
-    and-true true = refl
-    and-true false = refl
 
 -- ---- what columns are worth: acc is worth those before i
 

@@ -13,6 +13,7 @@ use Rattle.rules.specs.declared.Line.{Line}
 use Rattle.rules.specs.declared.Line.the-variants.{Dated}
 use Rattle.rules.specs.declared.Settings.{Settings}
 use Rattle.rules.specs.declared.Refusal.the-variants.{Room}
+use Rattle.text.proofs.Booleans.{pick-cases}
 use Rattle.planner.specs.declared.Plan.{Plan}
 use Rattle.planner.specs.declared.Plan.the-variants.{Stop, Open, Enter, Change, Level, Step, Print, Cancel, Correct}
 use Rattle.planner.specs.Plan.{datePlan, linePlan, readPlan, planOf}
@@ -29,11 +30,6 @@ Early (Step n) = ⊥
 Early (Print t) = ⊥
 Early (Cancel t) = ⊥
 Early (Correct c) = ⊥
-
-either : (b : Bool) (p q : Plan) → Early p → (b ≡ false → Early q) → Early (pick b p q)
-unfolding pick
-either true p q h k = h
-either false p q h k = k refl
 
 alike : (b : Bool) (p q r : Plan) → (b ≡ false → q ≡ r) → pick b p q ≡ pick b p r
 unfolding pick
@@ -57,16 +53,16 @@ module _ (line : List ℕ) where
 
   early-date : (st : Settings) (table names name : List ℕ) (l : Line) (n : ℕ) → l ≡ Dated n → Early (linePlan st table names name l)
   unfolding linePlan datePlan Early
-  early-date st table names name l n e = rw e (either _ _ _ tt (λ k. tt))
+  early-date st table names name l n e = rw e (pick-cases Early _ _ _ (λ z. tt) (λ k. tt))
 
   pub early : (table names : List ℕ) → Early (planOf (opened 0) table names line)
   unfolding planOf readPlan opened Early
   early table names =
-      either _ _ _ tt (λ e.
-      either _ _ _ tt (λ f.
-      either _ _ _ tt (λ g.
-      either _ _ _ tt (λ h.
-      either _ _ _ tt (λ i. early-date (opened 0) table names (nameColumns line) (lineOf line) _ (date-line g))))))
+      pick-cases Early _ _ _ (λ z. tt) (λ e.
+      pick-cases Early _ _ _ (λ z. tt) (λ f.
+      pick-cases Early _ _ _ (λ z. tt) (λ g.
+      pick-cases Early _ _ _ (λ z. tt) (λ h.
+      pick-cases Early _ _ _ (λ z. tt) (λ i. early-date (opened 0) table names (nameColumns line) (lineOf line) _ (date-line g))))))
 
   same-date : (st : Settings) (t u m n name : List ℕ) (l : Line) (k : ℕ) → l ≡ Dated k → linePlan st t m name l ≡ linePlan st u n name l
   unfolding linePlan

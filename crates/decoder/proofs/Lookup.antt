@@ -11,7 +11,7 @@ use borrow.Author.Tests.{not-true}
 use Rattle.text.specs.Pick.{pick, opt, same, among}
 use Rattle.text.specs.Reading.{heads, span}
 use Rattle.text.proofs.Texts.{same-true, same-refl}
-use Rattle.text.proofs.Booleans.{neither, or-first, or-second, false-true}
+use Rattle.text.proofs.Booleans.{neither, or-first, or-second, false-true, and-true}
 use Rattle.rules.specs.Tape.{isLetter, isRaised}
 use Rattle.rules.specs.Columns.{isBlank, word}
 use Rattle.rules.specs.Names.{partText, nameText, hasTemporary, sameName, temporaryField}
@@ -92,11 +92,7 @@ with-suffix name h = go (same (nameText false name) (nameText true name)) refl
 
 pub suffix-back : (b : Bool) (name : List ℕ) → showsSuffix (nameText b name) name ≡ (b && hasTemporary name)
 unfolding showsSuffix
-suffix-back true name = rw (same-refl (nameText true name)) (and-yes (hasTemporary name))
-  where
-    and-yes : (b : Bool) → (b && true) ≡ b
-    and-yes true = refl
-    and-yes false = refl
+suffix-back true name = rw (same-refl (nameText true name)) (and-true (hasTemporary name))
 suffix-back false name = go (hasTemporary name) refl
   where
     go : (b : Bool) → hasTemporary name ≡ b → (b && same (nameText false name) (nameText true name)) ≡ false

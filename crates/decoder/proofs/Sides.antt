@@ -11,7 +11,7 @@ use mathlib.Core.Option.{none, some}
 use lib.Dec.{leb, eqb}
 use borrow.Author.Tests.{leb-false, eqb-true, eqb-false, le-leb, not-false}
 use Rattle.text.specs.Pick.{pick, same}
-use Rattle.text.proofs.Booleans.{or-left, or-right, false-true}
+use Rattle.text.proofs.Booleans.{or-left, or-right, false-true, nonzero}
 use Rattle.rules.specs.Columns.{between}
 use Rattle.rules.specs.Price.{wholePart, fraction, units}
 use Rattle.rules.specs.Volume.{volumeText, fullVolume}
@@ -130,11 +130,7 @@ module _ (s : Security) (x : Side) (h : LawfulSide x) where
       e = ap dollars (shown-short p) ∙ dollars-of (w % 10) (part p) (part-small p (h .decimals))
 
       digit : between 1 9 (w % 10) ≡ true
-      digit = between-yes (w % 10) (one-le (w % 10) (k .some-digit)) (omega arith)
-        where
-          one-le : (n : ℕ) → (n ≡ 0 → ⊥) → 1 ≤ n
-          one-le zero z = absurd (z refl)
-          one-le (suc n) z = omega arith
+      digit = between-yes (w % 10) (nonzero (w % 10) (k .some-digit)) (omega arith)
 
       whole : units p ≡ w * 100000000 + part p
       whole = sym (full-price p (h .decimals)) ∙ shown-full p

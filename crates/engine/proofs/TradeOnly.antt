@@ -25,6 +25,7 @@ use Rattle.rules.specs.declared.Security.{Security}
 use Rattle.table.specs.Rows.{row}
 use Rattle.tradeline.specs.TradeLine.{isGood}
 use Rattle.rules.specs.declared.Refusal.the-variants.{NoDate, NotEntered, Conditions, Unmatched}
+use Rattle.rules.proofs.ByKind.{by-kind}
 use Rattle.planner.specs.declared.Plan.{Plan}
 use Rattle.planner.specs.declared.Plan.the-variants.{Stop, Print}
 use Rattle.planner.specs.Plan.{datePlan, listingPlan, unlessStopped, printPlan, tradePlan, cancelOf, cancelPlan, correctionOf, correctionPlan, linePlan, readPlan, planOf}
@@ -84,11 +85,6 @@ module _ (st : Settings) (table names name : List ℕ) where
   not-both : (A : Type 0) (b : Bool) → b ≡ false → b ≡ true → A
   not-both A b h e = let z : _≡_ {A = Bool} true false = sym e ∙ h in let y : _≡_ {A = ℕ} 0 1 = cc in absurd (omega (arith, y))
 
-  either : (k : ℕ) (b : Bool) (p q : Parsed) → (b ≡ true → Only k p) → Only k q → Only k (pick b p q)
-  unfolding pick
-  either k true p q f g = f refl
-  either k false p q f g = g
-
   no-date : (n : ℕ) (A : Type 0) → isTrade (linePlan st table names name (Dated n)) ≡ true → A
   unfolding linePlan
   no-date n A e = not-both A _ (date-none n) e
@@ -122,16 +118,17 @@ module _ (st : Settings) (table names name : List ℕ) where
   no-correction c A e = not-both A _ (correction-none (row table (c .security - 1)) c) e
 
   only-trade : (k : ℕ) (line : List ℕ) → Only k (ofKind k line)
-  unfolding ofKind
   only-trade k line =
-      either k _ _ _ (λ b e. no-date _ _ e)
-      (either k _ _ _ (λ b e. no-listing _ _ e)
-      (either k _ _ _ (λ b e. no-mode _ _ e)
-      (either k _ _ _ (λ b e. no-level _ _ e)
-      (either k _ _ _ (λ b e. no-step _ _ e)
-      (either k _ _ _ (λ b e. b)
-      (either k _ _ _ (λ b e. no-cancel _ _ e)
-      (either k _ _ _ (λ b e. no-error _ _ e) (λ e. no-correction _ _ e))))))))
+      by-kind (Only k) k line
+      (λ b e. no-date _ _ e)
+      (λ b e. no-listing _ _ e)
+      (λ b e. no-mode _ _ e)
+      (λ b e. no-level _ _ e)
+      (λ b e. no-step _ _ e)
+      (λ b e. b)
+      (λ b e. no-cancel _ _ e)
+      (λ b e. no-error _ _ e)
+      (λ e. no-correction _ _ e)
 
 -- ---- a line whose plan is a trade
 

@@ -24,6 +24,7 @@ use Rattle.rules.specs.declared.Line.the-variants.{Dated, Listed, Moded, Levele
 use Rattle.rules.specs.declared.Refusal.{Refusal}
 use Rattle.rules.proofs.Days.{passed}
 use Rattle.rules.proofs.Some.{some-minimum, some-mode, some-level, some-side, some-cancel, some-correction}
+use Rattle.rules.proofs.ByKind.{by-kind}
 use Rattle.explained.specs.Explained.{securityOf, tradeFate, cancelFate, correctionFate, stepFate, fateAt, fateOf, fateBy, isOnTape}
 use Rattle.explained.specs.declared.Reasons.{Reasons}
 use Rattle.explained.specs.declared.Fate.the-variants.{Refused, LeftOff, Printed}
@@ -65,22 +66,19 @@ trade-priced line h = side-priced (firstSide line) (and-right (isSecurityNumber 
 abbrev Owes : Parsed → Type 0
 Owes p = p .ranged ≡ true → Priced (p .line)
 
-either : (b : Bool) (p q : Parsed) → Owes p → Owes q → Owes (pick b p q)
-unfolding pick
-either true p q f g = f
-either false p q f g = g
-
 owed : (kind : ℕ) (line : List ℕ) → Owes (ofKind kind line)
-unfolding ofKind Priced
+unfolding Priced
 owed kind line =
-    either _ _ _ (λ h. tt)
-    (either _ _ _ (λ h. tt)
-    (either _ _ _ (λ h. tt)
-    (either _ _ _ (λ h. tt)
-    (either _ _ _ (λ h. tt)
-    (either _ _ _ (λ h. trade-priced line h)
-    (either _ _ _ (λ h. tt)
-    (either _ _ _ (λ h. tt) (λ h. tt))))))))
+    by-kind Owes kind line
+    (λ k h. tt)
+    (λ k h. tt)
+    (λ k h. tt)
+    (λ k h. tt)
+    (λ k h. tt)
+    (λ k h. trade-priced line h)
+    (λ k h. tt)
+    (λ k h. tt)
+    (λ h. tt)
 
 line-priced : (line : List ℕ) → isRanged line ≡ true → Priced (lineOf line)
 unfolding isRanged lineOf

@@ -15,6 +15,7 @@ use Rattle.right.proofs.Writes.{length-right}
 use Rattle.rules.specs.Refusal.{numberOf}
 use Rattle.rules.specs.declared.Refusal.{Refusal}
 use Rattle.rules.specs.declared.Refusal.the-variants.{Shape, Kind, NoDate, Form, Value, NotEntered, InUse, Name, SameName, Conditions, Unmatched, DateOrder, Room, NoPrint}
+use Rattle.rules.proofs.Refusals.{number-most}
 use Rattle.reasontext.specs.Text.{reasonsText}
 use Rattle.reasontext.proofs.Short.{reasons-short}
 use Rattle.explained.specs.declared.Fate.{Fate}
@@ -30,26 +31,9 @@ security-short n h = go (eqb n 0)
     go true = omega arith
     go false = omega (arith, length-right 4 n (omega arith))
 
-refusal-small : (r : Refusal) → numberOf r < 10 ^ 2
-unfolding numberOf
-refusal-small Shape = omega arith
-refusal-small Kind = omega arith
-refusal-small NoDate = omega arith
-refusal-small Form = omega arith
-refusal-small Value = omega arith
-refusal-small NotEntered = omega arith
-refusal-small InUse = omega arith
-refusal-small Name = omega arith
-refusal-small SameName = omega arith
-refusal-small Conditions = omega arith
-refusal-small Unmatched = omega arith
-refusal-small DateOrder = omega arith
-refusal-small Room = omega arith
-refusal-small NoPrint = omega arith
-
 fate-short : (f : Fate) → length (fateText f) ≤ 219
 unfolding fateText refusedText
-fate-short (Refused r) = simp length-append (omega (arith, length-decimal 1 (numberOf r) (refusal-small r)))
+fate-short (Refused r) = simp length-append (omega (arith, length-decimal 1 (numberOf r) (omega (arith, number-most r))))
 fate-short Accepted = omega arith
 fate-short Announced = omega arith
 fate-short LeftOff = omega arith

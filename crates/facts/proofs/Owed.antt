@@ -22,6 +22,7 @@ use Rattle.rules.specs.declared.Correction.{Correction}
 use Rattle.rules.specs.declared.Parsed.{Parsed}
 use Rattle.rules.specs.declared.Line.{Line}
 use Rattle.rules.specs.declared.Line.the-variants.{Dated, Listed, Moded, Leveled, Stepped, Traded, Cancelled, Erred, Corrected}
+use Rattle.rules.proofs.ByKind.{by-kind}
 use Rattle.widths.proofs.Below.{number-below}
 
 -- n below ten to the power 6 + d
@@ -104,19 +105,16 @@ correction-small line h =
 abbrev Owes : Parsed → Type 0
 Owes p = p .ranged ≡ true → SmallLine (p .line)
 
-either : (b : Bool) (p q : Parsed) → Owes p → Owes q → Owes (pick b p q)
-unfolding pick
-either true p q f g = f
-either false p q f g = g
-
 pub small-line : (kind : ℕ) (line : List ℕ) → Owes (ofKind kind line)
-unfolding ofKind SmallLine
+unfolding SmallLine
 small-line kind line =
-    either _ _ _ (λ h. tt)
-    (either _ _ _ (λ h. tt)
-    (either _ _ _ (λ h. tt)
-    (either _ _ _ (λ h. tt)
-    (either _ _ _ (λ h. tt)
-    (either _ _ _ (λ h. trade-small line h)
-    (either _ _ _ (λ h. trade-small line h)
-    (either _ _ _ (λ h. trade-small line h) (λ h. correction-small line h))))))))
+    by-kind Owes kind line
+    (λ k h. tt)
+    (λ k h. tt)
+    (λ k h. tt)
+    (λ k h. tt)
+    (λ k h. tt)
+    (λ k h. trade-small line h)
+    (λ k h. trade-small line h)
+    (λ k h. trade-small line h)
+    (λ h. correction-small line h)

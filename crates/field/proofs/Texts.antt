@@ -11,7 +11,7 @@ use lib.Dec.{eqb}
 use borrow.Author.Tests.{eq-eqb, ne-eqb, not-true, not-false}
 use Rattle.text.specs.Pick.{pick, all, among}
 use Rattle.text.specs.Reading.{span, found}
-use Rattle.text.proofs.Booleans.{and-false}
+use Rattle.text.proofs.Booleans.{and-false, and-true}
 use Rattle.text.proofs.Parts.{rest-is, all-parts}
 use Rattle.rules.specs.Tape.{isLetter}
 use Rattle.rules.specs.Columns.{isBlank, blank, word, filled, isRoot}
@@ -34,11 +34,7 @@ module _ (p : ℕ → Bool) (s : List ℕ) (others i : ℕ) (so : (eqb others 0 
 
   all-looked : length s ≤ i → eqb others 0 ≡ all p s
   unfolding all
-  all-looked h = sym (and-open (eqb others 0)) ∙ (ap (λ (l : List ℕ). eqb others 0 && all p l) (sym (drop-of-length-le s h)) ∙ so)
-    where
-      and-open : (b : Bool) → (b && true) ≡ b
-      and-open true = refl
-      and-open false = refl
+  all-looked h = sym (and-true (eqb others 0)) ∙ (ap (λ (l : List ℕ). eqb others 0 && all p l) (sym (drop-of-length-le s h)) ∙ so)
 
   -- as a callee told it
   pub told-found : (k : ℕ) (r : Bool) → k ≡ 1 → i < length s → r ≡ p (getD s i 0) → not r ≡ true → (eqb k 0 && all p (drop (i + 1) s)) ≡ all p s

@@ -9,6 +9,7 @@ use Rattle.text.proofs.Writing.{written-nothing}
 use Rattle.rules.specs.Refusal.{numberOf}
 use Rattle.rules.specs.declared.Refusal.{Refusal}
 use Rattle.rules.specs.declared.Refusal.the-variants.{Shape, Kind, NoDate, Form, Value, NotEntered, InUse, Name, SameName, Conditions, Unmatched, DateOrder, Room, NoPrint}
+use Rattle.rules.proofs.Refusals.{number-most}
 use Rattle.engine.specs.declared.Outcome.{Outcome}
 use Rattle.engine.specs.declared.Outcome.the-variants.{Accepted, Refused}
 use Rattle.right.proofs.Writes.{length-right}
@@ -17,27 +18,10 @@ use Rattle.lines.specs.Feed.{printed, told}
 
 -- ---- the whole line
 
-number-small : (r : Refusal) → numberOf r < 10 ^ 3
-unfolding numberOf
-number-small Shape = omega arith
-number-small Kind = omega arith
-number-small NoDate = omega arith
-number-small Form = omega arith
-number-small Value = omega arith
-number-small NotEntered = omega arith
-number-small InUse = omega arith
-number-small Name = omega arith
-number-small SameName = omega arith
-number-small Conditions = omega arith
-number-small Unmatched = omega arith
-number-small DateOrder = omega arith
-number-small Room = omega arith
-number-small NoPrint = omega arith
-
 -- 14 bytes
 pub length-refusal : (number : ℕ) (r : Refusal) → number ≤ 9999999999 → length (refusalLine number (numberOf r)) ≡ 14
 unfolding refusalLine
-length-refusal number r h = simp length-append (omega (arith, length-right 9 number (omega arith), length-right 2 (numberOf r) (number-small r)))
+length-refusal number r h = simp length-append (omega (arith, length-right 9 number (omega arith), length-right 2 (numberOf r) (omega (arith, number-most r))))
 
 -- ---- an outcome: what was printed, and what is told of it
 

@@ -37,6 +37,7 @@ use Rattle.rules.specs.declared.Security.{Security}
 use Rattle.rules.proofs.Days.{passed}
 use Rattle.rules.proofs.Fields.{security-number}
 use Rattle.text.proofs.Booleans.{false-true}
+use Rattle.rules.proofs.ByKind.{by-kind}
 use Rattle.compose.specs.Shown.{Enterable, Showable}
 use Rattle.compose.specs.Printable.{partIn, Printable, by-mode, by-level, by-trade, by-cancel, by-error, by-correction}
 use Rattle.normal.specs.Shown.{shownSide}
@@ -79,23 +80,19 @@ pub data Of (line : List ℕ) : Line → Type 0 where
 abbrev Reads : List ℕ → Parsed → Type 0
 Reads line p = p .formed ≡ true → p .ranged ≡ true → Of line (p .line)
 
-either : (line : List ℕ) (b : Bool) (p q : Parsed) → Reads line p → Reads line q → Reads line (pick b p q)
-unfolding pick
-either line true p q f g = f
-either line false p q f g = g
-
 pub of-kind : (kind : ℕ) (line : List ℕ) → Reads line (ofKind kind line)
-unfolding ofKind levelRanged stepRanged
+unfolding levelRanged stepRanged
 of-kind kind line =
-    either _ _ _ _ (λ f h. of-date _)
-    (either _ _ _ _ (λ f h. of-listing f h)
-    (either _ _ _ _ (λ f h. of-mode _)
-    (either _ _ _ _ (λ f h. of-level _ h)
-    (either _ _ _ _ (λ f h. of-step _ h)
-    (either _ _ _ _ (λ f h. of-trade h)
-    (either _ _ _ _ (λ f h. of-cancel h)
-    (either _ _ _ _ (λ f h. of-error h)
-    (λ f h. of-correction h))))))))
+    by-kind (Reads line) kind line
+    (λ k f h. of-date _)
+    (λ k f h. of-listing f h)
+    (λ k f h. of-mode _)
+    (λ k f h. of-level _ h)
+    (λ k f h. of-step _ h)
+    (λ k f h. of-trade h)
+    (λ k f h. of-cancel h)
+    (λ k f h. of-error h)
+    (λ f h. of-correction h)
 
 pub of-line : (day : Day) (line : List ℕ) (room : ℕ) → Accepted day line room → Of line (lineOf line)
 unfolding lineOf isFormed isRanged

@@ -17,6 +17,7 @@ use Rattle.rules.specs.declared.Settings.{Settings}
 use Rattle.rules.specs.declared.Refusal.the-variants.{Form, Value}
 use Rattle.rules.proofs.Fields.{few-decimals, security-number}
 use Rattle.rules.specs.Sizes.{width}
+use Rattle.rules.proofs.ByKind.{by-kind}
 use Rattle.prices.specs.Sound.{Sound}
 use Rattle.planner.specs.declared.Plan.{Plan}
 use Rattle.planner.specs.declared.Plan.the-variants.{Stop}
@@ -60,22 +61,19 @@ sound-listing line h = let n = security-number _ (and-left (isSecurityNumber _) 
 abbrev Owes : Parsed → Type 0
 Owes p = p .ranged ≡ true → SoundLine (p .line)
 
-either : (b : Bool) (p q : Parsed) → Owes p → Owes q → Owes (pick b p q)
-unfolding pick
-either true p q f g = f
-either false p q f g = g
-
 owed : (kind : ℕ) (line : List ℕ) → Owes (ofKind kind line)
-unfolding ofKind SoundLine
+unfolding SoundLine
 owed kind line =
-    either _ _ _ (λ h. tt)
-    (either _ _ _ (λ h. sound-listing line h)
-    (either _ _ _ (λ h. tt)
-    (either _ _ _ (λ h. tt)
-    (either _ _ _ (λ h. tt)
-    (either _ _ _ (λ h. sound-trade line h)
-    (either _ _ _ (λ h. sound-trade line h)
-    (either _ _ _ (λ h. sound-trade line h) (λ h. sound-correction line h))))))))
+    by-kind Owes kind line
+    (λ k h. tt)
+    (λ k h. sound-listing line h)
+    (λ k h. tt)
+    (λ k h. tt)
+    (λ k h. tt)
+    (λ k h. sound-trade line h)
+    (λ k h. sound-trade line h)
+    (λ k h. sound-trade line h)
+    (λ h. sound-correction line h)
 
 module _ (line : List ℕ) (p : Parsed) (read : p ≡ ofKind (column 1 line) line) where
   pub sound-line : not (p .ranged) ≡ false → SoundLine (p .line)

@@ -17,6 +17,7 @@ use Rattle.rules.specs.declared.Parsed.{Parsed}
 use Rattle.rules.specs.Columns.{column, numberIn, isNumber, valueOf}
 use Rattle.rules.specs.Line.{volumeIn, priceIn, formedBy, sideFormed, rangedBy, sideRanged, sideBy, sideOf, firstSide, secondSide, isMarket, isSecurityNumber, tradeFormed, tradeRanged, tradeOf, correctionFormed, correctionRanged, correctionOf, ofKind}
 use Rattle.rules.specs.Sizes.{width}
+use Rattle.rules.proofs.ByKind.{by-kind}
 use Rattle.planner.proofs.Ranged.{sound-side}
 use Rattle.trade.specs.Columns.{SideColumns}
 
@@ -79,19 +80,16 @@ module _ (line : List ℕ) (size : length line ≡ width) where
   abbrev Owes : Parsed → Type 0
   Owes p = p .formed ≡ true → p .ranged ≡ true → SidesStand line (p .line)
 
-  either : (b : Bool) (p q : Parsed) → Owes p → Owes q → Owes (pick b p q)
-  unfolding pick
-  either true p q f g = f
-  either false p q f g = g
-
   pub sides-stand : (kind : ℕ) → Owes (ofKind kind line)
-  unfolding ofKind SidesStand
+  unfolding SidesStand
   sides-stand kind =
-      either _ _ _ (λ f r. tt)
-      (either _ _ _ (λ f r. tt)
-      (either _ _ _ (λ f r. tt)
-      (either _ _ _ (λ f r. tt)
-      (either _ _ _ (λ f r. tt)
-      (either _ _ _ trade-stands
-      (either _ _ _ trade-stands
-      (either _ _ _ trade-stands correction-stands)))))))
+      by-kind Owes kind line
+      (λ k f r. tt)
+      (λ k f r. tt)
+      (λ k f r. tt)
+      (λ k f r. tt)
+      (λ k f r. tt)
+      (λ k f r. trade-stands f r)
+      (λ k f r. trade-stands f r)
+      (λ k f r. trade-stands f r)
+      (λ f r. correction-stands f r)

@@ -19,6 +19,7 @@ use Rattle.rules.specs.declared.Line.the-variants.{Dated, Listed, Moded, Levele
 use Rattle.rules.specs.declared.Settings.{Settings}
 use Rattle.rules.specs.declared.Security.{Security}
 use Rattle.rules.specs.Sizes.{width}
+use Rattle.text.proofs.Booleans.{pick-cases, nonzero}
 use Rattle.planner.specs.declared.Plan.{Plan}
 use Rattle.planner.specs.declared.Plan.the-variants.{Stop, Open, Enter, Change, Level, Step, Print, Cancel, Correct}
 use Rattle.planner.specs.Plan.{datePlan, listingPlan, unlessStopped, printPlan, tradePlan, cancelOf, cancelPlan, correctionOf, correctionPlan, linePlan, readPlan, planOf, SoundListing, SoundTrade, SoundCorrection, SoundLine}
@@ -27,37 +28,28 @@ use Rattle.trade.specs.Columns.{SideColumns}
 use Rattle.planprint.specs.Print.{SoundPrint, SoundCancel, SoundCorrect, SoundPlan}
 use Rattle.planprint.proofs.Columns.{SidesStand, sides-stand}
 
-either : (line : List ℕ) (b : Bool) (p q : Plan) → SoundPlan line p → (b ≡ false → SoundPlan line q) → SoundPlan line (pick b p q)
-unfolding pick
-either line true p q h k = h
-either line false p q h k = k refl
-
 pub has-unit : (s : Security) → not (isEntered s) ≡ false → 1 ≤ s .unit
 unfolding isEntered
-has-unit s h = let z = eqb-false (s .unit) 0 (not-true (eqb (s .unit) 0) (not-false (not (eqb (s .unit) 0)) h)) in some (s .unit) z
-  where
-    some : (n : ℕ) → (n ≡ 0 → ⊥) → 1 ≤ n
-    some zero z = absurd (z refl)
-    some (suc n) z = omega arith
+has-unit s h = let z = eqb-false (s .unit) 0 (not-true (eqb (s .unit) 0) (not-false (not (eqb (s .unit) 0)) h)) in nonzero (s .unit) z
 
 module _ (st : Settings) (table names line : List ℕ) where
   date-sound : (n : ℕ) → SoundPlan line (datePlan st n)
   unfolding datePlan SoundPlan
-  date-sound n = either line _ _ _ tt (λ e. tt)
+  date-sound n = pick-cases (SoundPlan line) _ _ _ (λ z. tt) (λ e. tt)
 
   listing-sound : (name : List ℕ) (l : Listing) → SoundListing l → length line ≡ width → SoundPlan line (listingPlan table names name l)
   unfolding listingPlan SoundPlan
   listing-sound name l h k =
-      either line _ _ _ tt (λ e.
-      either line _ _ _ tt (λ f.
-      either line _ _ _ tt (λ g. (omega (arith, h .low, h .high), k))))
+      pick-cases (SoundPlan line) _ _ _ (λ z. tt) (λ e.
+      pick-cases (SoundPlan line) _ _ _ (λ z. tt) (λ f.
+      pick-cases (SoundPlan line) _ _ _ (λ z. tt) (λ g. (omega (arith, h .low, h .high), k))))
 
   stops-sound : (s : Security) (t : Trade) (p : Plan) → (1 ≤ s .unit → SoundPlan line p) → SoundPlan line (unlessStopped s t p)
   unfolding unlessStopped SoundPlan
   stops-sound s t p h =
-      either line _ _ _ tt (λ e.
-      either line _ _ _ tt (λ f.
-      either line _ _ _ tt (λ g. h (has-unit s e))))
+      pick-cases (SoundPlan line) _ _ _ (λ z. tt) (λ e.
+      pick-cases (SoundPlan line) _ _ _ (λ z. tt) (λ f.
+      pick-cases (SoundPlan line) _ _ _ (λ z. tt) (λ g. h (has-unit s e))))
 
   module _ (k : length line ≡ width) where
     trade-sound : (s : Security) (t : Trade) → SoundTrade t → SideColumns (firstSide line) (t .side) → SoundPlan line (tradePlan st s t)
@@ -71,9 +63,9 @@ module _ (st : Settings) (table names line : List ℕ) where
     correction-sound : (s : Security) (c : Correction) → SoundCorrection c → SideColumns (firstSide line) (c .original) × SideColumns (secondSide line) (c .correcting) → SoundPlan line (correctionPlan st s c)
     unfolding correctionPlan correctionOf SoundPlan
     correction-sound s c h w =
-        either line _ _ _ tt (λ e.
-        either line _ _ _ tt (λ f.
-        either line _ _ _ tt (λ g. record { place-is = omega (arith, h .low, h .high); unit-is = has-unit s e; line-is = k; original-stands = w .0; correcting-stands = w .1 })))
+        pick-cases (SoundPlan line) _ _ _ (λ z. tt) (λ e.
+        pick-cases (SoundPlan line) _ _ _ (λ z. tt) (λ f.
+        pick-cases (SoundPlan line) _ _ _ (λ z. tt) (λ g. record { place-is = omega (arith, h .low, h .high); unit-is = has-unit s e; line-is = k; original-stands = w .0; correcting-stands = w .1 })))
 
     line-sound : (name : List ℕ) (l : Line) → SoundLine l → SidesStand line l → SoundPlan line (linePlan st table names name l)
     unfolding linePlan SoundLine SidesStand SoundPlan
@@ -90,16 +82,16 @@ module _ (st : Settings) (table names line : List ℕ) where
   read-sound : length line ≡ width → SoundPlan line (readPlan st table names line)
   unfolding readPlan SoundPlan isFormed isRanged lineOf
   read-sound k =
-      either line _ _ _ tt (λ e.
-      either line _ _ _ tt (λ f.
+      pick-cases (SoundPlan line) _ _ _ (λ z. tt) (λ e.
+      pick-cases (SoundPlan line) _ _ _ (λ z. tt) (λ f.
       line-sound k (nameColumns line) (lineOf line) (sound-line line (ofKind (column 1 line) line) refl f) (sides-stand line k (column 1 line) (not-false _ e) (not-false _ f))))
 
   plan-sound : SoundPlan line (planOf st table names line)
   unfolding planOf SoundPlan
   plan-sound =
-      either line _ _ _ tt (λ e.
-      either line _ _ _ tt (λ f.
-      either line _ _ _ tt (λ g. read-sound (shaped line (isShaped line) refl e))))
+      pick-cases (SoundPlan line) _ _ _ (λ z. tt) (λ e.
+      pick-cases (SoundPlan line) _ _ _ (λ z. tt) (λ f.
+      pick-cases (SoundPlan line) _ _ _ (λ z. tt) (λ g. read-sound (shaped line (isShaped line) refl e))))
 
   pub sound-asked : (p : Plan) → p ≡ planOf st table names line → SoundPlan line p
   sound-asked p e = rw e plan-sound

@@ -2,3 +2,5 @@ pub mod Marked
 pub mod Fields
 pub mod Days
 pub mod Some
+pub mod ByKind
+pub mod Refusals

@@ -248,18 +248,47 @@ correctionOf line = record {
   matched = sideMatched (firstSide line) && sideMatched (secondSide line);
 }
 
--- a line of one kind: in its form or not, within its values or not, and its value
+-- a line as one of a kind: in its form or not, within its values or not, and its value
+
+abbrev pub asDate : List ℕ → Parsed
+asDate line = record { formed = dateFormed line; ranged = dateRanged line; line = Dated (valueOf (numberIn (columns 2 9 line))) }
+
+abbrev pub asListing : List ℕ → Parsed
+asListing line = record { formed = listingFormed line; ranged = listingRanged line; line = Listed (listingOf line) }
+
+abbrev pub asMode : List ℕ → Parsed
+asMode line = record { formed = modeFormed line; ranged = true; line = Moded (modeOf (column 2 line)) }
+
+abbrev pub asLevel : List ℕ → Parsed
+asLevel line = record { formed = levelFormed line; ranged = levelRanged line; line = Leveled (valueOf (numberIn (columns 2 7 line))) }
+
+abbrev pub asStep : List ℕ → Parsed
+asStep line = record { formed = stepFormed line; ranged = stepRanged line; line = Stepped (valueOf (numberIn (columns 2 4 line))) }
+
+abbrev pub asTrade : List ℕ → Parsed
+asTrade line = record { formed = tradeFormed line; ranged = tradeRanged line; line = Traded (tradeOf line) }
+
+abbrev pub asCancel : List ℕ → Parsed
+asCancel line = record { formed = tradeFormed line; ranged = tradeRanged line; line = Cancelled (tradeOf line) }
+
+abbrev pub asError : List ℕ → Parsed
+asError line = record { formed = tradeFormed line; ranged = tradeRanged line; line = Erred (tradeOf line) }
+
+abbrev pub asCorrection : List ℕ → Parsed
+asCorrection line = record { formed = correctionFormed line; ranged = correctionRanged line; line = Corrected (correctionOf line) }
+
+-- by the letter in column 1: D, S, M, V, P, T, X, E; any other counts as C, since refusal 2 comes first
 unfoldable pub ofKind : ℕ → List ℕ → Parsed
 ofKind kind line =
-    pick (eqb kind 68) (record { formed = dateFormed line; ranged = dateRanged line; line = Dated (valueOf (numberIn (columns 2 9 line))) })
-    (pick (eqb kind 83) (record { formed = listingFormed line; ranged = listingRanged line; line = Listed (listingOf line) })
-    (pick (eqb kind 77) (record { formed = modeFormed line; ranged = true; line = Moded (modeOf (column 2 line)) })
-    (pick (eqb kind 86) (record { formed = levelFormed line; ranged = levelRanged line; line = Leveled (valueOf (numberIn (columns 2 7 line))) })
-    (pick (eqb kind 80) (record { formed = stepFormed line; ranged = stepRanged line; line = Stepped (valueOf (numberIn (columns 2 4 line))) })
-    (pick (eqb kind 84) (record { formed = tradeFormed line; ranged = tradeRanged line; line = Traded (tradeOf line) })
-    (pick (eqb kind 88) (record { formed = tradeFormed line; ranged = tradeRanged line; line = Cancelled (tradeOf line) })
-    (pick (eqb kind 69) (record { formed = tradeFormed line; ranged = tradeRanged line; line = Erred (tradeOf line) })
-    (record { formed = correctionFormed line; ranged = correctionRanged line; line = Corrected (correctionOf line) }))))))))
+    pick (eqb kind 68) (asDate line)
+    (pick (eqb kind 83) (asListing line)
+    (pick (eqb kind 77) (asMode line)
+    (pick (eqb kind 86) (asLevel line)
+    (pick (eqb kind 80) (asStep line)
+    (pick (eqb kind 84) (asTrade line)
+    (pick (eqb kind 88) (asCancel line)
+    (pick (eqb kind 69) (asError line)
+    (asCorrection line))))))))
 
 unfoldable pub isFormed : List ℕ → Bool
 isFormed line = (ofKind (column 1 line) line) .formed

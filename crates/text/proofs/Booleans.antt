@@ -60,6 +60,10 @@ pub or-cases : (a b : Bool) → (a || b) ≡ true → (a ≡ true) ⊎ (b ≡ tr
 or-cases true b h = inl refl
 or-cases false b h = inr h
 
+pub or-other : (a b : Bool) → (a || b) ≡ true → b ≡ false → a ≡ true
+or-other true b h e = refl
+or-other false b h e = cc
+
 -- the first asks for the second
 pub implied : (a b : Bool) → a ≡ true → (not a || b) ≡ true → b ≡ true
 implied true b e h = h

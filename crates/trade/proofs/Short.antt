@@ -33,10 +33,10 @@ few n h = record { within = length-decimal 19 n h }
 few-parts : (n k : ℕ) → n < 10 ^ 20 → Most 20 (decimal (n / k))
 few-parts n k h = few (n / k) (omega (arith, div-le-self n k))
 
-either : {k : ℕ} {s t : List ℕ} (b : Bool) → Most k s → Most k t → Most k (pick b s t)
+chosen : {k : ℕ} {s t : List ℕ} (b : Bool) → Most k s → Most k t → Most k (pick b s t)
 unfolding pick
-either true h g = h
-either false h g = g
+chosen true h g = h
+chosen false h g = g
 
 shown : {k : ℕ} {t : List ℕ} (b : Bool) → Most k t → Most k (opt b t)
 unfolding opt
@@ -58,8 +58,8 @@ group-short n = then {j = 1} {k = 3} (mark 1 (bytes ",") (omega arith)) (mark 3 
 full-short : (n : ℕ) → n < 10 ^ 20 → Most 28 (fullVolume n)
 unfolding fullVolume
 full-short n h =
-    either _ (more 28 (few n h) (omega arith))
-    (either _ (more 28 (then (few-parts n 1000 h) (group-short n)) (omega arith))
+    chosen _ (more 28 (few n h) (omega arith))
+    (chosen _ (more 28 (then (few-parts n 1000 h) (group-short n)) (omega arith))
     (then (then (few-parts n 1000000 h) (group-short (n / 1000))) (group-short n)))
 
 module _ (v : ℕ) (h : v < 10 ^ 20) where
@@ -70,20 +70,20 @@ module _ (v : ℕ) (h : v < 10 ^ 20) where
   hundreds-short : Most 32 (inHundreds v)
   unfolding inHundreds
   hundreds-short =
-      either _ (mark 32 [] (omega arith))
-      (either _ (more 32 (then (few-parts v 100 h) (mark 1 (bytes "s") (omega arith))) (omega arith))
+      chosen _ (mark 32 [] (omega arith))
+      (chosen _ (more 32 (then (few-parts v 100 h) (mark 1 (bytes "s") (omega arith))) (omega arith))
       (more 32 (then (full-short v h) (mark 1 (bytes "s") (omega arith))) (omega arith)))
 
   tens-short : Most 32 (inTens v)
   unfolding inTens
   tens-short =
-      either _
-      (either _ (more 32 (then (few-parts v 10 h) (mark 1 (bytes "$") (omega arith))) (omega arith)) shares-short)
+      chosen _
+      (chosen _ (more 32 (then (few-parts v 10 h) (mark 1 (bytes "$") (omega arith))) (omega arith)) shares-short)
       (more 32 (then (full-short v h) (mark 1 (bytes "$") (omega arith))) (omega arith))
 
   volume-short : (network unit : ℕ) → Most 32 (volumeText network unit v)
   unfolding volumeText
-  volume-short network unit = either _ shares-short (either _ hundreds-short tens-short)
+  volume-short network unit = chosen _ shares-short (chosen _ hundreds-short tens-short)
 
   pub volume-most : (network unit : ℕ) (shows : Bool) → length (opt shows (volumeText network unit v)) ≤ 32
   volume-most network unit shows = (shown shows (volume-short network unit)) .within
@@ -93,11 +93,11 @@ module _ (v : ℕ) (h : v < 10 ^ 20) where
 module _ (p : Price) (h : p .n < 10 ^ 20) (l : p .d ≤ 8) where
   whole-short : Most 20 (wholeText (wholePart p))
   unfolding wholeText wholePart
-  whole-short = either _ (mark 20 [] (omega arith)) (few-parts (p .n) (10 ^ p .d) h)
+  whole-short = chosen _ (mark 20 [] (omega arith)) (few-parts (p .n) (10 ^ p .d) h)
 
   fraction-short : Most 9 (fractionText (p .d) (fraction p))
   unfolding fractionText
-  fraction-short = either _ (mark 9 [] (omega arith)) (then {j = 1} {k = 8} (mark 1 (bytes ",") (omega arith)) (mark 8 (places (p .d) (fraction p)) (omega (arith, length-places (p .d) (fraction p)))))
+  fraction-short = chosen _ (mark 9 [] (omega arith)) (then {j = 1} {k = 8} (mark 1 (bytes ",") (omega arith)) (mark 8 (places (p .d) (fraction p)) (omega (arith, length-places (p .d) (fraction p)))))
 
   short-whole : Most 20 (shortWhole (wholePart p))
   unfolding shortWhole
@@ -105,7 +105,7 @@ module _ (p : Price) (h : p .n < 10 ^ 20) (l : p .d ≤ 8) where
 
   price-short : (full : Bool) → Most 29 (priceText full p)
   unfolding priceText
-  price-short full = then (either full whole-short short-whole) fraction-short
+  price-short full = then (chosen full whole-short short-whole) fraction-short
 
   pub price-most : (full : Bool) → length (priceText full p) ≤ 29
   price-most full = price-short full .within

@@ -14,6 +14,7 @@ use Rattle.rules.specs.Conditions.{lettersIn, lawfulLetters}
 use Rattle.rules.specs.Line.{isPrice, rangedBy, sideRanged, sideBy, sideOf, alike, matchedBy, sideMatched, volumeIn, priceIn, decimalsIn, lettersField, daysIn, previousIn, previousDecimalsIn, firstSide, secondSide, nameColumns, isSecurityNumber, isUnit, listingFormed, listingRanged, listingOf, levelRanged, tradeRanged, tradeOf, correctionRanged, correctionOf, ofKind}
 use Rattle.rules.specs.declared.Parsed.{Parsed}
 use Rattle.rules.proofs.Fields.{few-decimals, level-below, security-number}
+use Rattle.rules.proofs.ByKind.{by-kind}
 use Rattle.named.proofs.Letters.{lawful-one-sold}
 use Rattle.decoder.specs.Lawful.{LawfulSide}
 use Rattle.compose.proofs.Below.{volume-below, unmatched, unit-some, root-columns}
@@ -75,19 +76,16 @@ lawful-correction line h =
 abbrev Owes : List ℕ → Parsed → Type 0
 Owes name p = p .formed ≡ true → p .ranged ≡ true → LawfulLine name (p .line)
 
-either : (name : List ℕ) (b : Bool) (p q : Parsed) → Owes name p → Owes name q → Owes name (pick b p q)
-unfolding pick
-either name true p q f g = f
-either name false p q f g = g
-
 pub lawful-line : (kind : ℕ) (line : List ℕ) → Owes (nameColumns line) (ofKind kind line)
-unfolding ofKind LawfulLine levelRanged
+unfolding LawfulLine levelRanged
 lawful-line kind line =
-    either _ _ _ _ (λ f h. tt)
-    (either _ _ _ _ (λ f h. lawful-listing line f h)
-    (either _ _ _ _ (λ f h. tt)
-    (either _ _ _ _ (λ f h. level-below _ h)
-    (either _ _ _ _ (λ f h. tt)
-    (either _ _ _ _ (λ f h. lawful-trade line h)
-    (either _ _ _ _ (λ f h. lawful-trade line h)
-    (either _ _ _ _ (λ f h. lawful-trade line h) (λ f h. lawful-correction line h))))))))
+    by-kind (Owes (nameColumns line)) kind line
+    (λ k f h. tt)
+    (λ k f h. lawful-listing line f h)
+    (λ k f h. tt)
+    (λ k f h. level-below _ h)
+    (λ k f h. tt)
+    (λ k f h. lawful-trade line h)
+    (λ k f h. lawful-trade line h)
+    (λ k f h. lawful-trade line h)
+    (λ f h. lawful-correction line h)

@@ -27,6 +27,7 @@ use Rattle.wholeday.proofs.Accepted.{fine}
 use Rattle.wholeday.proofs.Kept.{NotDate, NotListed, kept-line, later-same, later-trans, entered-now, named-now, entered-before, entered-same}
 use Rattle.wholeday.proofs.Prints.{line-owed}
 use Rattle.text.proofs.Booleans.{same-or-not, false-true}
+use Rattle.rules.proofs.ByKind.{by-kind}
 
 -- ---- one call, refused or accepted
 
@@ -73,31 +74,18 @@ module _ (day : Day) (c : Call) where
     falls-taken = rw (e, callFalls)
 
 -- a line of another kind than D is no date
-either : (b : Bool) (p q : Parsed) → b ≡ false → NotDate (q .line) → NotDate ((pick b p q) .line)
-unfolding pick
-either true p q e h = absurd (false-true (sym e))
-either false p q e h = h
-
-both-not : (b : Bool) (p q : Parsed) → NotDate (p .line) → NotDate (q .line) → NotDate ((pick b p q) .line)
-unfolding pick
-both-not true p q h k = h
-both-not false p q h k = k
-
-both-unlisted : (b : Bool) (p q : Parsed) → NotListed (p .line) → NotListed (q .line) → NotListed ((pick b p q) .line)
-unfolding pick
-both-unlisted true p q h k = h
-both-unlisted false p q h k = k
-
-first-unlisted : (b : Bool) (p q : Parsed) → b ≡ false → NotListed (q .line) → NotListed ((pick b p q) .line)
-unfolding pick
-first-unlisted true p q e h = absurd (false-true (sym e))
-first-unlisted false p q e h = h
-
 not-date : (kind : ℕ) (line : List ℕ) → eqb kind 68 ≡ false → NotDate ((ofKind kind line) .line)
-unfolding ofKind NotDate
+unfolding NotDate
 not-date kind line e =
-    either _ _ _ e
-    (both-not _ _ _ tt (both-not _ _ _ tt (both-not _ _ _ tt (both-not _ _ _ tt (both-not _ _ _ tt (both-not _ _ _ tt (both-not _ _ _ tt tt)))))))
+    by-kind (λ (p : Parsed). NotDate (p .line)) kind line (λ k. absurd (false-true (sym e ∙ k)))
+    (λ k. tt)
+    (λ k. tt)
+    (λ k. tt)
+    (λ k. tt)
+    (λ k. tt)
+    (λ k. tt)
+    (λ k. tt)
+    tt
 
 module _ (day : Day) (c : Call) (k : Invariant day) (n : (accepts day c && eqb (column 1 (c .line)) 68) ≡ false) where
   other-kind : refusalOf day (c .line) (c .room) ≡ none → NotDate (lineOf (c .line))
@@ -230,11 +218,17 @@ abbrev pub From : List (List ℕ) → ℕ → Type 0
 From lines i = (line : List ℕ) × (member line lines ≡ true) × (place line ≡ i)
 
 not-listed : (kind : ℕ) (line : List ℕ) → eqb kind 83 ≡ false → NotListed ((ofKind kind line) .line)
-unfolding ofKind NotListed
+unfolding NotListed
 not-listed kind line e =
-    both-unlisted _ _ _ tt
-    (first-unlisted _ _ _ e
-    (both-unlisted _ _ _ tt (both-unlisted _ _ _ tt (both-unlisted _ _ _ tt (both-unlisted _ _ _ tt (both-unlisted _ _ _ tt (both-unlisted _ _ _ tt tt)))))))
+    by-kind (λ (p : Parsed). NotListed (p .line)) kind line (λ k. tt)
+    (λ k. absurd (false-true (sym e ∙ k)))
+    (λ k. tt)
+    (λ k. tt)
+    (λ k. tt)
+    (λ k. tt)
+    (λ k. tt)
+    (λ k. tt)
+    tt
 
 entered-call : (day : Day) (c : Call) (i : ℕ) → Invariant day → (accepts day c && eqb (column 1 (c .line)) 68) ≡ false → isEntered (atPlace (after day c) i) ≡ true → (isEntered (atPlace day i) ≡ true) ⊎ (((accepts day c && eqb (column 1 (c .line)) 83) ≡ true) × (place (c .line) ≡ i))
 unfolding lineOf
