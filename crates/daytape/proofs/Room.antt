@@ -12,7 +12,7 @@ use Rattle.text.specs.Pick.{pick}
 use Rattle.rules.specs.Columns.{column}
 use Rattle.rules.specs.Line.{isShaped, isKind, isFormed, isRanged, lineOf, nameColumns}
 use Rattle.rules.specs.Refusal.{refuse, numberOf}
-use Rattle.rules.specs.Day.{Day, listingRefusal, tradeRefusal, correctionRefusal, dateRefusal, stateRefusal, undated, printOf, refusalOf, afterLine, tapeOf, after}
+use Rattle.rules.specs.Day.{Day, listingRefusal, tradeRefusal, correctionRefusal, dateRefusal, stateRefusal, undated, printOf, refusalOf, afterLine, tapeOf, after, ample}
 use Rattle.rules.specs.declared.Line.{Line}
 use Rattle.rules.specs.declared.Line.the-variants.{Dated, Listed, Moded, Leveled, Stepped, Traded, Cancelled, Erred, Corrected}
 use Rattle.rules.specs.declared.Refusal.{Refusal}
@@ -20,7 +20,6 @@ use Rattle.rules.specs.declared.Refusal.the-variants.{Shape, Kind, NoDate, Form
 use Rattle.rules.specs.Sizes.{longestPrint}
 use Rattle.normal.specs.Invariant.{Invariant}
 use Rattle.normal.proofs.Views.{of-kind}
-use Rattle.daytape.specs.Claim.{ample}
 use Rattle.daytape.proofs.Most.{print-by}
 
 -- ---- a chain of refusals that ends in 13

@@ -9,7 +9,7 @@ use lib.ListN.{length, replicate, length-replicate}
 use borrow.Author.Tests.{leb-true}
 use Rattle.text.specs.Put.{put}
 use Rattle.text.proofs.Texts.{and-left}
-use Rattle.rules.specs.Day.{Day, opened, fresh, refusalOf, tapeOf, after}
+use Rattle.rules.specs.Day.{Day, opened, fresh, refusalOf, tapeOf, after, ample}
 use Rattle.rules.specs.Sizes.{longestPrint}
 use Rattle.planner.specs.declared.Plan.{Plan}
 use Rattle.planner.specs.declared.Plan.the-variants.{Stop, Open, Enter, Change, Level, Step, Print, Cancel, Correct}
@@ -26,7 +26,7 @@ use Rattle.normal.proofs.Days.{held-fresh, held-after}
 use Rattle.lines.specs.Feed.{Progress, told, carried, lineTaken, roomLeft, linesTaken}
 use Rattle.lines.specs.Handed.{handed, allTaken, turnOf, printAt, printsOf, toldOf}
 use Rattle.lines.proofs.Whole.{handed-on, handed-off, handed-taken, all-number, all-tape, all-told}
-use Rattle.daytape.specs.Claim.{ample, tapeOfLines, toldBy, refusalsOfLines, dayOfLines, stateOf, startOf, Feeds, DayTape}
+use Rattle.daytape.specs.Claim.{tapeOfLines, toldBy, refusalsOfLines, dayOfLines, stateOf, startOf, Feeds, DayTape}
 use Rattle.daytape.specs.Claim.Feeds.{ended, fed}
 use Rattle.daytape.proofs.Room.{same-refusal, same-tape, same-after}
 

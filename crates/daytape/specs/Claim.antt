@@ -5,7 +5,7 @@ use mathlib.Core.List.{List, [], _∷_, _++_}
 use mathlib.Core.Option.{Option, none, some}
 use Rattle.rules.specs.Sizes.{longestPrint}
 use Rattle.rules.specs.Refusal.{numberOf}
-use Rattle.rules.specs.Day.{Day, Call, refusalOf, tapeOf, after}
+use Rattle.rules.specs.Day.{Day, Call, refusalOf, tapeOf, after, ample}
 use Rattle.rules.specs.declared.Refusal.{Refusal}
 use Rattle.calls.specs.Run.{State}
 use Rattle.lines.specs.Refusals.{refusalLine}
@@ -13,10 +13,6 @@ use Rattle.lines.specs.Feed.{Progress, started, linesTaken}
 use Rattle.lines.specs.Handed.{handed}
 
 -- ---- by the rules
-
--- a call with room for any print
-abbrev pub ample : List ℕ → Call
-ample line = record { line = line; room = longestPrint }
 
 -- the prints of lines, joined in order: document 01's standard output
 unfoldable pub tapeOfLines : Day → List (List ℕ) → List ℕ

@@ -8,7 +8,7 @@ use mir.Syntax.{w64}
 use lib.ListN.{length, take, drop, length-take, length-drop}
 use Rattle.text.specs.Put.{Written}
 use Rattle.text.proofs.Writing.{then}
-use Rattle.rules.specs.Day.{Day, Call, after}
+use Rattle.rules.specs.Day.{Day, Call, after, ample}
 use Rattle.rules.specs.declared.Settings.{Settings}
 use Rattle.rules.specs.Sizes.{longestPrint}
 use Rattle.table.specs.Sizes.{tableSize, namesSize}
@@ -22,14 +22,14 @@ use Rattle.explained.specs.declared.Explanation.{Explanation}
 use Rattle.explained.proofs.Agree.{explained-small}
 use Rattle.explainline.specs.Lines.{lineOf}
 use Rattle.explainline.proofs.Short.{line-short}
-use Rattle.explaining.specs.Explains.{call, Explains, Progress, lineExplained, Stands, Steps}
+use Rattle.explaining.specs.Explains.{Explains, Progress, lineExplained, Stands, Steps}
 use Rattle.explaining.specs.declared.Step.{Step}
 use Rattle.explaining.specs.declared.Told.{Told}
 
 -- an explanation's line fits
 pub line-room : (day : Day) (line : List ℕ) (number m : ℕ) (e : Explanation) → e ≡ explainedBy day (record { line = line; room = longestPrint }) → number ≤ 9999999999 → 238 ≤ m → length (lineOf number e) ≤ m
 line-room day line number m e h k l =
-    let small : e .security ≤ 512 = rw h (explained-small day (call line)) in
+    let small : e .security ≤ 512 = rw h (explained-small day (ample line)) in
     omega (arith, line-short number e k small)
 
 module _ (st : Settings) (number : ℕ) (table names line tape table′ names′ tape′ rest rest′ : List ℕ) (a : Answer) (e : Explanation) (n : ℕ) where
@@ -61,7 +61,7 @@ module _ (s : Told) (block table names text table′ names′ ys : List ℕ) (t 
       let line : List ℕ = take (end - s .at) (drop (s .at) block) in
       let e : end ≡ s .at + length line = omega (arith, length-take (end - s .at) (drop (s .at) block), length-drop (s .at) block) in
       record {
-        day-is = w .day-is ∙ ap (λ (d : Day). after d (call line)) (h .day-is);
+        day-is = w .day-is ∙ ap (λ (d : Day). after d (ample line)) (h .day-is);
         number-is = ap (λ (n : ℕ). n + 1) (h .number-is);
         at-is = omega (arith, e, h .at-is);
         text-is = rw (← h .day-is, ← h .number-is) (then (h .text-is) (w .line-is));

@@ -5,18 +5,18 @@ use mathlib.Core.Path.{_≡_, refl, sym, ap, _∙_}
 use mathlib.Core.List.{List, [], _∷_, _++_, append-assoc, append-nil}
 use lib.ListN.{length, length-append, replicate}
 use Rattle.table.specs.Sizes.{tableSize, namesSize}
-use Rattle.rules.specs.Day.{Day, opened, fresh, after}
+use Rattle.rules.specs.Day.{Day, opened, fresh, after, ample}
 use Rattle.rules.specs.declared.Settings.{Settings}
 use Rattle.table.specs.Rows.{dayOf}
 use Rattle.table.proofs.Held.{held-cleared}
 use Rattle.blocks.specs.Lines.{cut}
 use Rattle.explained.specs.Explained.{explainedBy}
 use Rattle.explainline.specs.Lines.{lineOf}
-use Rattle.explaining.specs.Explains.{call, Progress, started, lineExplained, linesExplained, blockExplained}
+use Rattle.explaining.specs.Explains.{Progress, started, lineExplained, linesExplained, blockExplained}
 use Rattle.explaining.specs.Whole.{explainedText}
 use Rattle.explaining.proofs.Blocks.{explained-on, explained-none, room-some}
 
-text-on : (day : Day) (number : ℕ) (l : List ℕ) (ls : List (List ℕ)) → explainedText day number (l ∷ ls) ≡ lineOf number (explainedBy day (call l)) ++ explainedText (after day (call l)) (number + 1) ls
+text-on : (day : Day) (number : ℕ) (l : List ℕ) (ls : List (List ℕ)) → explainedText day number (l ∷ ls) ≡ lineOf number (explainedBy day (ample l)) ++ explainedText (after day (ample l)) (number + 1) ls
 unfolding explainedText
 text-on day number l ls = refl
 
@@ -29,8 +29,8 @@ pub lines-explained : (room : ℕ) (ls : List (List ℕ)) (p : Progress) → len
 unfolding lineExplained
 lines-explained room [] p h k = ap (λ (q : Progress). q .text) (explained-none room p) ∙ (sym (append-nil (p .text)) ∙ ap (λ (t : List ℕ). p .text ++ t) (sym (text-none (p .day) (p .number))))
 lines-explained room (l ∷ ls) p h k =
-    let t : List ℕ = lineOf (p .number) (explainedBy (p .day) (call l)) in
-    let u : List ℕ = explainedText (after (p .day) (call l)) (p .number + 1) ls in
+    let t : List ℕ = lineOf (p .number) (explainedBy (p .day) (ample l)) in
+    let u : List ℕ = explainedText (after (p .day) (ample l)) (p .number + 1) ls in
     let e : length (explainedText (p .day) (p .number) (l ∷ ls)) ≡ length t + length u = ap length (text-on (p .day) (p .number) l ls) ∙ length-append t u in
     let ih = lines-explained room ls (lineExplained l p) (omega (arith, h, e, length-append (p .text) t)) (omega (arith, k)) in
     ap (λ (q : Progress). q .text) (explained-on room l ls p (room-some room (length (p .text)) (p .number) (omega arith) (omega arith)))

@@ -6,7 +6,7 @@ use mathlib.Core.List.{List, [], _∷_, _++_}
 use lib.Dec.{leb}
 use lib.ListN.{length}
 use Rattle.text.specs.Put.{Written}
-use Rattle.rules.specs.Day.{Day, Call, after}
+use Rattle.rules.specs.Day.{Day, Call, after, ample}
 use Rattle.rules.specs.declared.Settings.{Settings}
 use Rattle.rules.specs.Sizes.{longestPrint}
 use Rattle.table.specs.Rows.{dayOf}
@@ -16,13 +16,10 @@ use Rattle.explainline.specs.Lines.{lineOf}
 use Rattle.explaining.specs.declared.Step.{Step}
 use Rattle.explaining.specs.declared.Told.{Told}
 
-abbrev pub call : List ℕ → Call
-call line = record { line = line; room = longestPrint }
-
 -- one call: state, line and the lent rest at entry, state and rest at exit, and the answer
 pub record Explains (st : Settings) (number : ℕ) (table names line rest table′ names′ rest′ : List ℕ) (r : Step) : Type 0 where
-  pub line-is : Written (lineOf number (explainedBy (dayOf st table names) (call line))) rest rest′ (r .count)
-  pub day-is : dayOf (r .settings) table′ names′ ≡ after (dayOf st table names) (call line)
+  pub line-is : Written (lineOf number (explainedBy (dayOf st table names) (ample line))) rest rest′ (r .count)
+  pub day-is : dayOf (r .settings) table′ names′ ≡ after (dayOf st table names) (ample line)
 
 -- where the reading of a block stands: the day, the number of the next line, the bytes that are read, the lines of the explanations so far
 pub record Progress : Type 0 where
@@ -37,10 +34,10 @@ started st table names number = record { day = dayOf st table names; number = nu
 -- the line and its line feed are read
 unfoldable pub lineExplained : List ℕ → Progress → Progress
 lineExplained line p = record {
-  day = after (p .day) (call line);
+  day = after (p .day) (ample line);
   number = p .number + 1;
   at = p .at + length line + 1;
-  text = p .text ++ lineOf (p .number) (explainedBy (p .day) (call line));
+  text = p .text ++ lineOf (p .number) (explainedBy (p .day) (ample line));
 }
 
 -- 238 bytes are left of `room`, of which `n` are used, and reading has not ended

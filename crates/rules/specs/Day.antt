@@ -6,7 +6,7 @@ use mathlib.Core.Option.{Option, none, some}
 use lib.Dec.{leb, ltb, eqb}
 use lib.ListN.{length, getD, set, replicate}
 use Rattle.text.specs.Pick.{pick, opt}
-use Rattle.rules.specs.Sizes.{securityPlaces}
+use Rattle.rules.specs.Sizes.{securityPlaces, longestPrint}
 use Rattle.rules.specs.Columns.{column}
 use Rattle.rules.specs.Names.{nameText, sameName, hasTemporary}
 use Rattle.rules.specs.Conditions.{onNetwork}
@@ -193,6 +193,10 @@ afterLine day name (Corrected c) = withSecurity day (c .security) (afterCorrecti
 pub record Call : Type 0 where
   pub line : List ℕ
   pub room : ℕ
+
+-- a call with room for any print: the day program, the facts and the explanations lend so much
+abbrev pub ample : List ℕ → Call
+ample line = record { line = line; room = longestPrint }
 
 -- a refused line puts nothing on the tape and moves nothing
 unfoldable pub tapeOf : Day → Call → List ℕ

@@ -7,7 +7,7 @@ use mathlib.Core.Option.{Option}
 use lib.ListN.{length, take, drop, length-append, length-take, length-drop}
 use Rattle.text.specs.Put.{put, Written}
 use Rattle.text.proofs.Writing.{then, named}
-use Rattle.rules.specs.Day.{Day, Call, tapeOf, after}
+use Rattle.rules.specs.Day.{Day, Call, tapeOf, after, ample}
 use Rattle.rules.specs.Shown.{Fact, shownBy}
 use Rattle.rules.specs.declared.Refusal.{Refusal}
 use Rattle.rules.specs.declared.Settings.{Settings}
@@ -27,7 +27,7 @@ use Rattle.facts.specs.declared.Entry.{Entry}
 use Rattle.facts.proofs.Agree.{short-shown}
 use Rattle.factline.specs.Lines.{lineOf}
 use Rattle.factline.proofs.Short.{entry-short}
-use Rattle.showing.specs.Shows.{call, Shows, Progress, lineShown, Stands, Steps, factRoom}
+use Rattle.showing.specs.Shows.{Shows, Progress, lineShown, Stands, Steps, factRoom}
 use Rattle.showing.specs.declared.Told.{Told}
 use Rattle.showing.specs.declared.Shown.{Shown}
 
@@ -62,7 +62,7 @@ module _ (st : Settings) (table names line tape table′ names′ tape′ : List
     abbrev day : Day
     day = dayOf st table names
 
-    held : (take n tape′ ≡ tapeOf day (call line)) × (dayOf (a .settings) table′ names′ ≡ after day (call line))
+    held : (take n tape′ ≡ tapeOf day (ample line)) × (dayOf (a .settings) table′ names′ ≡ after day (ample line))
     held =
         let s : State = record { settings = st; table = table; names = names } in
         let m : State = record { settings = a .settings; table = table′; names = names′ } in
@@ -70,13 +70,13 @@ module _ (st : Settings) (table names line tape table′ names′ tape′ : List
         let h = link-held s m c tape′ a t refl day (record { rows = rows; places = places }) refl in
         rw (count, ← size) h
 
-    module _ (e : Entry) (told : factIn (tapeOf day (call line)) e ≡ shownBy day (call line)) where
-      entry-is : factIn (take n tape′) e ≡ shownBy day (call line)
+    module _ (e : Entry) (told : factIn (tapeOf day (ample line)) e ≡ shownBy day (ample line)) where
+      entry-is : factIn (take n tape′) e ≡ shownBy day (ample line)
       entry-is = ap (λ (x : List ℕ). factIn x e) (held .0) ∙ told
 
       pub entry-room : (m : ℕ) → length tape′ ≡ longestPrint → factRoom ≤ m → length (lineOf (factIn (take n tape′) e)) ≤ m
       entry-room m z l =
-          omega (arith, entry-short (take n tape′) e (shownBy day (call line)) entry-is (short-shown st table names line longestPrint rows places), count-taken longestPrint z, count-fits longestPrint z)
+          omega (arith, entry-short (take n tape′) e (shownBy day (ample line)) entry-is (short-shown st table names line longestPrint rows places), count-taken longestPrint z, count-fits longestPrint z)
 
       pub call-shown : (rest rest′ : List ℕ) (k : ℕ) → Written (lineOf (factIn (take n tape′) e)) rest rest′ k
           → Shows st table names line rest table′ names′ rest′ (record { settings = a .settings; count = k })
@@ -95,7 +95,7 @@ module _ (s : Shown) (block table names facts table′ names′ ys : List ℕ) (
       let line : List ℕ = take (end - s .at) (drop (s .at) block) in
       let e : end ≡ s .at + length line = omega (arith, length-take (end - s .at) (drop (s .at) block), length-drop (s .at) block) in
       record {
-        day-is = w .day-is ∙ ap (λ (d : Day). after d (call line)) (h .day-is);
+        day-is = w .day-is ∙ ap (λ (d : Day). after d (ample line)) (h .day-is);
         at-is = omega (arith, e, h .at-is);
         facts-is = rw (← h .day-is) (then (h .facts-is) (w .line-is));
       }

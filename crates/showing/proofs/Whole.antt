@@ -5,13 +5,13 @@ use mathlib.Core.Path.{_≡_, refl, sym, ap, _∙_}
 use mathlib.Core.List.{List, [], _∷_, _++_, append-assoc, append-nil}
 use mathlib.Core.Option.{Option, none, some}
 use lib.ListN.{length, length-append}
-use Rattle.rules.specs.Day.{Day, Call, after}
+use Rattle.rules.specs.Day.{Day, Call, after, ample}
 use Rattle.rules.specs.Shown.{Fact, entries, shownBy, shown}
 use Rattle.rules.specs.declared.Settings.{Settings}
 use Rattle.table.specs.Rows.{dayOf}
 use Rattle.blocks.specs.Lines.{cut}
 use Rattle.factline.specs.Lines.{lineOf}
-use Rattle.showing.specs.Shows.{call, Progress, started, lineShown, linesShown, blockShown, factRoom}
+use Rattle.showing.specs.Shows.{Progress, started, lineShown, linesShown, blockShown, factRoom}
 use Rattle.showing.specs.Whole.{factsText, callsOf, shownText}
 use Rattle.showing.proofs.Blocks.{shown-on, shown-none}
 
@@ -21,9 +21,9 @@ unfolding factsText lineOf
 entry-text none l = refl
 entry-text (some f) l = refl
 
-text-on : (day : Day) (l : List ℕ) (ls : List (List ℕ)) → shownText day (l ∷ ls) ≡ lineOf (shownBy day (call l)) ++ shownText (after day (call l)) ls
+text-on : (day : Day) (l : List ℕ) (ls : List (List ℕ)) → shownText day (l ∷ ls) ≡ lineOf (shownBy day (ample l)) ++ shownText (after day (ample l)) ls
 unfolding shownText callsOf shown
-text-on day l ls = entry-text (shownBy day (call l)) (shown (after day (call l)) (callsOf ls))
+text-on day l ls = entry-text (shownBy day (ample l)) (shown (after day (ample l)) (callsOf ls))
 
 text-none : (day : Day) → shownText day [] ≡ []
 unfolding shownText callsOf shown factsText
@@ -33,8 +33,8 @@ pub lines-shown : (room : ℕ) (ls : List (List ℕ)) (p : Progress) → length 
 unfolding lineShown
 lines-shown room [] p h = ap (λ (q : Progress). q .facts) (shown-none room p) ∙ (sym (append-nil (p .facts)) ∙ ap (λ (t : List ℕ). p .facts ++ t) (sym (text-none (p .day))))
 lines-shown room (l ∷ ls) p h =
-    let t : List ℕ = lineOf (shownBy (p .day) (call l)) in
-    let u : List ℕ = shownText (after (p .day) (call l)) ls in
+    let t : List ℕ = lineOf (shownBy (p .day) (ample l)) in
+    let u : List ℕ = shownText (after (p .day) (ample l)) ls in
     let e : length (shownText (p .day) (l ∷ ls)) ≡ length t + length u = ap length (text-on (p .day) l ls) ∙ length-append t u in
     let ih = lines-shown room ls (lineShown l p) (omega (arith, h, e, length-append (p .facts) t)) in
     ap (λ (q : Progress). q .facts) (shown-on room l ls p (omega arith))

@@ -6,7 +6,7 @@ use mathlib.Core.List.{List, [], _∷_, _++_}
 use lib.Dec.{leb}
 use lib.ListN.{length}
 use Rattle.text.specs.Put.{Written}
-use Rattle.rules.specs.Day.{Day, Call, after}
+use Rattle.rules.specs.Day.{Day, Call, after, ample}
 use Rattle.rules.specs.Shown.{shownBy}
 use Rattle.rules.specs.declared.Settings.{Settings}
 use Rattle.rules.specs.Sizes.{longestPrint}
@@ -16,13 +16,10 @@ use Rattle.factline.specs.Lines.{lineOf}
 use Rattle.showing.specs.declared.Told.{Told}
 use Rattle.showing.specs.declared.Shown.{Shown}
 
-abbrev pub call : List ℕ → Call
-call line = record { line = line; room = longestPrint }
-
 -- one call: state, line and the lent rest at entry, state and rest at exit, and the answer
 pub record Shows (st : Settings) (table names line rest table′ names′ rest′ : List ℕ) (r : Told) : Type 0 where
-  pub line-is : Written (lineOf (shownBy (dayOf st table names) (call line))) rest rest′ (r .count)
-  pub day-is : dayOf (r .settings) table′ names′ ≡ after (dayOf st table names) (call line)
+  pub line-is : Written (lineOf (shownBy (dayOf st table names) (ample line))) rest rest′ (r .count)
+  pub day-is : dayOf (r .settings) table′ names′ ≡ after (dayOf st table names) (ample line)
 
 -- where the reading of a block stands: the day, the bytes that are read, the lines of the shown facts so far
 pub record Progress : Type 0 where
@@ -36,9 +33,9 @@ started st table names = record { day = dayOf st table names; at = 0; facts = []
 -- the line and its line feed are read
 unfoldable pub lineShown : List ℕ → Progress → Progress
 lineShown line p = record {
-  day = after (p .day) (call line);
+  day = after (p .day) (ample line);
   at = p .at + length line + 1;
-  facts = p .facts ++ lineOf (shownBy (p .day) (call line));
+  facts = p .facts ++ lineOf (shownBy (p .day) (ample line));
 }
 
 -- any line of shown facts has room in it (crate factline, `entry-short`)

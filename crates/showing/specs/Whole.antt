@@ -1,10 +1,9 @@
 -- The shown facts of lines, as text. Assumes nothing.
 use Prim.Native.Nat.{ℕ}
 use mathlib.Core.List.{List, [], _∷_, _++_}
-use Rattle.rules.specs.Day.{Day, Call}
+use Rattle.rules.specs.Day.{Day, Call, ample}
 use Rattle.rules.specs.Shown.{Fact, shown}
 use Rattle.factline.specs.Lines.{factLine}
-use Rattle.showing.specs.Shows.{call}
 
 -- one line for each fact
 unfoldable pub factsText : List Fact → List ℕ
@@ -13,7 +12,7 @@ factsText (f ∷ l) = factLine f ++ factsText l
 
 unfoldable pub callsOf : List (List ℕ) → List Call
 callsOf [] = []
-callsOf (l ∷ ls) = call l ∷ callsOf ls
+callsOf (l ∷ ls) = ample l ∷ callsOf ls
 
 -- what lines show from a day on, each call lent a tape of `longestPrint` bytes
 unfoldable pub shownText : Day → List (List ℕ) → List ℕ
