@@ -8,11 +8,11 @@ use mir.Syntax.{w64}
 use lib.ListN.{length, take, drop, length-append, length-take, length-drop}
 use lib.Seq.{length-take-le}
 use Rattle.rules.specs.declared.Settings.{Settings}
-use Rattle.lines.specs.declared.Fed.{Fed}
-use Rattle.lines.specs.Feed.{started, blockTaken, Stands}
-use Rattle.lines.proofs.Whole.{fed-within}
-use Rattle.input.specs.State.{Within}
-use Rattle.input.specs.declared.State.{State}
+use Rattle.feed_lines.specs.declared.Fed.{Fed}
+use Rattle.feed_lines.specs.Feed.{started, blockTaken, Stands}
+use Rattle.feed_lines.proofs.Whole.{fed-within}
+use Rattle.feed_input.specs.State.{Within}
+use Rattle.feed_input.specs.declared.State.{State}
 
 -- ---- after a feed of what stands between two places
 

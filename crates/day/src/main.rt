@@ -1,15 +1,15 @@
 // The day program (document 01, "Shown facts and the whole day"): day lines on standard input, the tape on standard output,
 // refused lines on standard error. Input is read in blocks; lines go to the engine as parts of a block.
-use input::State;
+use call_table::NAMES_SIZE;
+use call_table::Names;
+use call_table::TABLE_SIZE;
+use call_table::Table;
+use feed_input::State;
 use libc::STDERR_FILENO;
 use libc::STDOUT_FILENO;
-use table::NAMES_SIZE;
-use table::Names;
-use table::TABLE_SIZE;
-use table::Table;
 ghost use Prim.Native.Nat.{_≤_, _<_};
 ghost use lib.ListN.{length};
-ghost use Rattle.input.specs.State.{Within};
+ghost use Rattle.feed_input.specs.State.{Within};
 
 // Writes what was gathered, and answers whether all of it was taken.
 fn write_out(tape: &[u8], n: usize, refusals: &[u8], k: usize) -> bool
@@ -36,7 +36,7 @@ fn feed_lines(
     let at = s.at;
     let have = s.have;
     let settings = s.settings;
-    let f = lines::feed(
+    let f = feed_lines::feed(
         settings,
         s.number,
         table,
@@ -47,10 +47,10 @@ fn feed_lines(
     );
     let next = at + f.at;
     if !write_out(tape, f.tape, refusals, f.refusals) {
-        return input::stopped(s);
+        return feed_input::stopped(s);
     }
     let after = f.settings;
-    input::gone_on(s, after, f.number, next)
+    feed_input::gone_on(s, after, f.number, next)
 }
 
 // All that is left goes to the engine as one line: the last line, or the first block of a line that is longer.
@@ -68,7 +68,7 @@ fn feed_rest(
     let at = s.at;
     let have = s.have;
     let settings = s.settings;
-    let f = lines::feed_last(
+    let f = feed_lines::feed_last(
         settings,
         s.number,
         table,
@@ -78,10 +78,10 @@ fn feed_rest(
         refusals,
     );
     if !write_out(tape, f.tape, refusals, f.refusals) {
-        return input::stopped(s);
+        return feed_input::stopped(s);
     }
     let after = f.settings;
-    input::all_taken(s, after, f.number)
+    feed_input::all_taken(s, after, f.number)
 }
 
 // No line feed is left: a block that is not full is filled up, any other goes to the engine.
@@ -97,10 +97,10 @@ fn refill(
     ensures { λ r. ⌜ Within r (length (now (block .exit))) ⌝ }
 {
     if 9999999999 < s.number {
-        return input::stopped(s);
+        return feed_input::stopped(s);
     }
     if s.have - s.at < block.len() {
-        return input::read_more(s, block);
+        return feed_input::read_more(s, block);
     }
     feed_rest(s, table, names, block, tape, refusals)
 }
@@ -118,7 +118,7 @@ fn turn(
     ensures { λ r. ⌜ Within r (length (now (block .exit))) ⌝ }
 {
     if s.passing {
-        return input::pass(s, block);
+        return feed_input::pass(s, block);
     }
     let r = feed_lines(s, table, names, block, tape, refusals);
     if !r.going {
@@ -134,7 +134,7 @@ fn turn(
 fn run(table: &mut Table, names: &mut Names, block: &mut [u8], tape: &mut [u8], refusals: &mut [u8])
     requires { ⌜ 0 < length (now block) ⌝ }
 {
-    let mut s = input::started();
+    let mut s = feed_input::started();
     let mut turns = u64::MAX;
     while 0 < turns && s.going {
         s = turn(s, table, names, block, tape, refusals);

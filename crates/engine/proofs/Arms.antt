@@ -4,11 +4,11 @@ use mathlib.Core.Path.{_≡_}
 use Rattle.rules.specs.declared.Mode.{Mode}
 use Rattle.rules.specs.declared.Refusal.{Refusal}
 use Rattle.rules.specs.declared.Security.{Security}
-use Rattle.planner.specs.declared.TradePlan.{TradePlan}
-use Rattle.planner.specs.declared.CancelPlan.{CancelPlan}
-use Rattle.planner.specs.declared.CorrectionPlan.{CorrectionPlan}
-use Rattle.planner.specs.declared.Plan.{Plan}
-use Rattle.planner.specs.declared.Plan.the-variants.{Stop, Open, Enter, Change, Level, Step, Print, Cancel, Correct}
+use Rattle.call_plan.specs.declared.TradePlan.{TradePlan}
+use Rattle.call_plan.specs.declared.CancelPlan.{CancelPlan}
+use Rattle.call_plan.specs.declared.CorrectionPlan.{CorrectionPlan}
+use Rattle.call_plan.specs.declared.Plan.{Plan}
+use Rattle.call_plan.specs.declared.Plan.the-variants.{Stop, Open, Enter, Change, Level, Step, Print, Cancel, Correct}
 use Rattle.engine.specs.declared.Outcome.the-variants.{Accepted, Refused}
 use Rattle.engine.specs.Taken.{outcomeOf}
 

@@ -5,11 +5,11 @@ use mathlib.Core.List.{List}
 use lib.ListN.{length}
 use Rattle.text.specs.Put.{put, Written}
 use Rattle.rules.specs.declared.Settings.{Settings}
-use Rattle.planner.specs.declared.Plan.{Plan}
-use Rattle.planner.specs.Plan.{planOf}
+use Rattle.call_plan.specs.declared.Plan.{Plan}
+use Rattle.call_plan.specs.Plan.{planOf}
 use Rattle.engine.specs.declared.Outcome.{Outcome}
-use Rattle.planprint.specs.Print.{printedName, fittedOf, printOf}
-use Rattle.planstate.specs.After.{settingsAfter, tableAfter, namesAfter}
+use Rattle.call_print.specs.Print.{printedName, fittedOf, printOf}
+use Rattle.call_state.specs.After.{settingsAfter, tableAfter, namesAfter}
 use Rattle.engine.specs.Taken.{asked, outcomeOf, Taken}
 
 -- the plan that was fitted

@@ -25,22 +25,22 @@ use Rattle.rules.specs.declared.Security.{Security}
 use Rattle.rules.specs.declared.Refusal.{Refusal}
 use Rattle.rules.specs.declared.Refusal.the-variants.{NotEntered, Conditions, Room}
 use Rattle.rules.specs.Sizes.{width}
-use Rattle.table.specs.Rows.{row, withRow, nameOf}
-use Rattle.trade.specs.Columns.{SideColumns}
-use Rattle.tradeline.specs.declared.TradeLine.{TradeLine}
-use Rattle.tradeline.specs.TradeLine.{isGood, tradeLine, sideIn}
-use Rattle.tradeline.proofs.Lines.{good-no, good-shaped, good-kind, good-formed, good-ranged, good-trade}
-use Rattle.traded.specs.declared.TradeAnswer.{TradeAnswer}
-use Rattle.traded.specs.Traded.{tradeText, untakenOf, Carried}
-use Rattle.planner.specs.declared.TradePlan.{TradePlan}
-use Rattle.planner.specs.declared.Plan.{Plan}
-use Rattle.planner.specs.declared.Plan.the-variants.{Stop, Print}
-use Rattle.planner.specs.Plan.{printPlan, unlessStopped, tradePlan, linePlan, readPlan, planOf, SoundTrade}
-use Rattle.planner.proofs.Ranged.{sound-trade}
-use Rattle.planprint.specs.Print.{printedName, printText, textOf, fittedOf, printOf}
-use Rattle.planprint.proofs.Sound.{has-unit}
-use Rattle.planprint.proofs.Columns.{trade-stands}
-use Rattle.planstate.specs.After.{settingsAfter, tableAfter, namesAfter}
+use Rattle.call_table.specs.Rows.{row, withRow, nameOf}
+use Rattle.print_side.specs.Columns.{SideColumns}
+use Rattle.line_trade.specs.declared.TradeLine.{TradeLine}
+use Rattle.line_trade.specs.TradeLine.{isGood, tradeLine, sideIn}
+use Rattle.line_trade.proofs.Lines.{good-no, good-shaped, good-kind, good-formed, good-ranged, good-trade}
+use Rattle.call_trade.specs.declared.TradeAnswer.{TradeAnswer}
+use Rattle.call_trade.specs.Traded.{tradeText, untakenOf, Carried}
+use Rattle.call_plan.specs.declared.TradePlan.{TradePlan}
+use Rattle.call_plan.specs.declared.Plan.{Plan}
+use Rattle.call_plan.specs.declared.Plan.the-variants.{Stop, Print}
+use Rattle.call_plan.specs.Plan.{printPlan, unlessStopped, tradePlan, linePlan, readPlan, planOf, SoundTrade}
+use Rattle.call_plan.proofs.Ranged.{sound-trade}
+use Rattle.call_print.specs.Print.{printedName, printText, textOf, fittedOf, printOf}
+use Rattle.call_print.proofs.Sound.{has-unit}
+use Rattle.call_print.proofs.Columns.{trade-stands}
+use Rattle.call_state.specs.After.{settingsAfter, tableAfter, namesAfter}
 use Rattle.engine.specs.declared.Outcome.the-variants.{Accepted}
 use Rattle.engine.specs.declared.Answer.{Answer}
 use Rattle.engine.specs.Calls.{GoodCall}

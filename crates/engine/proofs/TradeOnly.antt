@@ -22,14 +22,14 @@ use Rattle.rules.specs.declared.Correction.{Correction}
 use Rattle.rules.specs.declared.Listing.{Listing}
 use Rattle.rules.specs.declared.Settings.{Settings}
 use Rattle.rules.specs.declared.Security.{Security}
-use Rattle.table.specs.Rows.{row}
-use Rattle.tradeline.specs.TradeLine.{isGood}
+use Rattle.call_table.specs.Rows.{row}
+use Rattle.line_trade.specs.TradeLine.{isGood}
 use Rattle.rules.specs.declared.Refusal.the-variants.{NoDate, NotEntered, Conditions, Unmatched}
 use Rattle.rules.proofs.ByKind.{by-kind}
-use Rattle.planner.specs.declared.Plan.{Plan}
-use Rattle.planner.specs.declared.Plan.the-variants.{Stop, Print}
-use Rattle.planner.specs.Plan.{datePlan, listingPlan, unlessStopped, printPlan, tradePlan, cancelOf, cancelPlan, correctionOf, correctionPlan, linePlan, readPlan, planOf}
-use Rattle.planprint.specs.Print.{printedName, textOf, fittedOf}
+use Rattle.call_plan.specs.declared.Plan.{Plan}
+use Rattle.call_plan.specs.declared.Plan.the-variants.{Stop, Print}
+use Rattle.call_plan.specs.Plan.{datePlan, listingPlan, unlessStopped, printPlan, tradePlan, cancelOf, cancelPlan, correctionOf, correctionPlan, linePlan, readPlan, planOf}
+use Rattle.call_print.specs.Print.{printedName, textOf, fittedOf}
 use Rattle.engine.specs.Taken.{asked, isTrade}
 
 pub of-trade : (line : List ℕ) → column 1 line ≡ 84 → ofKind (column 1 line) line ≡ record { formed = tradeFormed line; ranged = tradeRanged line; line = Traded (tradeOf line) }

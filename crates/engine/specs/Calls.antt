@@ -4,8 +4,8 @@ use mathlib.Core.Path.{_≡_}
 use mathlib.Core.Bool.{true}
 use mathlib.Core.List.{List}
 use Rattle.rules.specs.declared.Settings.{Settings}
-use Rattle.tradeline.specs.declared.TradeLine.{TradeLine}
-use Rattle.tradeline.specs.TradeLine.{tradeLine}
+use Rattle.line_trade.specs.declared.TradeLine.{TradeLine}
+use Rattle.line_trade.specs.TradeLine.{tradeLine}
 
 -- a good T line after a D, and what it was read as
 pub record GoodCall (st : Settings) (line : List ℕ) (t : TradeLine) : Type 0 where

@@ -7,15 +7,15 @@ use lib.ListN.{length}
 use Rattle.text.specs.Put.{put}
 use Rattle.rules.specs.Line.{isShaped}
 use Rattle.rules.specs.declared.Settings.{Settings}
-use Rattle.planner.specs.declared.Plan.{Plan}
-use Rattle.planner.specs.declared.Plan.the-variants.{Stop, Open, Enter, Change, Level, Step, Print, Cancel, Correct}
-use Rattle.planner.specs.Plan.{planOf}
+use Rattle.call_plan.specs.declared.Plan.{Plan}
+use Rattle.call_plan.specs.declared.Plan.the-variants.{Stop, Open, Enter, Change, Level, Step, Print, Cancel, Correct}
+use Rattle.call_plan.specs.Plan.{planOf}
 use Rattle.engine.specs.declared.Outcome.{Outcome}
 use Rattle.engine.specs.declared.Outcome.the-variants.{Accepted, Refused}
 use Rattle.engine.specs.declared.Answer.{Answer}
-use Rattle.traded.specs.declared.TradeAnswer.{TradeAnswer}
-use Rattle.planprint.specs.Print.{printedName, fittedOf, printOf}
-use Rattle.planstate.specs.After.{settingsAfter, tableAfter, namesAfter}
+use Rattle.call_trade.specs.declared.TradeAnswer.{TradeAnswer}
+use Rattle.call_print.specs.Print.{printedName, fittedOf, printOf}
+use Rattle.call_state.specs.After.{settingsAfter, tableAfter, namesAfter}
 
 -- what a call asks for that is lent a tape of `room` bytes
 unfoldable pub asked : Settings → List ℕ → List ℕ → List ℕ → ℕ → Plan

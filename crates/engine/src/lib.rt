@@ -1,15 +1,15 @@
 // The engine: one call takes one line. Any bytes of any length are a line; the state is settings by value and two lent tables
 // of fixed size, every value of which has a meaning; the tape is lent, of any length. Nothing is required. The promise is
 // `Taken`: the outcome, the settings, every byte of both tables and every byte of the tape.
-use planner::Plan;
+use call_plan::Plan;
+use call_table::Names;
+use call_table::Table;
+use call_trade::TradeAnswer;
+use line_trade::TradeLine;
 use rules::FIRST_SIDE;
 use rules::Refusal;
 use rules::SECOND_SIDE;
 use rules::Settings;
-use table::Names;
-use table::Table;
-use traded::TradeAnswer;
-use tradeline::TradeLine;
 ghost use mathlib.Core.Path.{_≡_};
 ghost use Rattle.rules.specs.Day.{opened};
 ghost use Rattle.engine.specs.Calls.{GoodCall};
@@ -48,15 +48,15 @@ fn outcome_of(p: Plan, n: usize) -> Outcome
 pub fn fresh() -> Settings
     ensures { λ r. ⌜ r ≡ opened 0 ⌝ }
 {
-    planstate::opened_on(0)
+    call_state::opened_on(0)
 }
 
 // What a call asks for that is lent a tape of `room` bytes: its plan, or the refusal that stops it, 13 too.
 pub fn ask_line(st: Settings, table: &Table, names: &Names, line: &[u8], room: usize) -> Plan
     ensures { λ r. ⌜ r ≡ asked st (now (table .entry)) (now (names .entry)) (now (line .entry)) room ⌝ }
 {
-    let p = planner::plan_line(st, table, names, line);
-    planprint::fitted(st, names, line, p, room)
+    let p = call_plan::plan_line(st, table, names, line);
+    call_print::fitted(st, names, line, p, room)
 }
 
 // ---- trades
@@ -74,11 +74,11 @@ fn take_good(
     ensures { λ r. ⌜ TradeTaken st (now (table .entry)) (now (names .entry)) (now (line .entry)) (now (tape .entry)) (now (table .exit)) (now (tape .exit)) r ⌝ }
 {
     let place = (t.security - 1) as usize;
-    let s = table::load(table, place);
-    if !qualifying::is_entered(s) {
-        return traded::untaken();
+    let s = call_table::load(table, place);
+    if !decide_letters::is_entered(s) {
+        return call_trade::untaken();
     }
-    traded::carry_out(
+    call_trade::carry_out(
         st,
         table,
         names,
@@ -101,11 +101,11 @@ pub fn take_trade(
     ensures { λ r. ⌜ TradeTaken st (now (table .entry)) (now (names .entry)) (now (line .entry)) (now (tape .entry)) (now (table .exit)) (now (tape .exit)) r ⌝ }
 {
     if st.date == 0 {
-        return traded::untaken();
+        return call_trade::untaken();
     }
-    let t = tradeline::read_trade_line(line);
+    let t = line_trade::read_trade_line(line);
     if !t.good {
-        return traded::untaken();
+        return call_trade::untaken();
     }
     take_good(st, table, names, line, t, tape)
 }
@@ -120,14 +120,14 @@ pub fn take_by_plan(
 ) -> Answer
     ensures { λ r. ⌜ Taken st (now (table .entry)) (now (names .entry)) (now (line .entry)) (now (tape .entry)) (now (table .exit)) (now (names .exit)) (now (tape .exit)) r ⌝ }
 {
-    let asked = planner::plan_line(st, table, names, line);
-    let p = planprint::fitted(st, names, line, asked, tape.len());
-    let k = planprint::write_text(tape, st, names, line, p);
-    planstate::update_table(table, line, p);
-    planstate::update_names(names, line, p);
+    let asked = call_plan::plan_line(st, table, names, line);
+    let p = call_print::fitted(st, names, line, asked, tape.len());
+    let k = call_print::write_text(tape, st, names, line, p);
+    call_state::update_table(table, line, p);
+    call_state::update_names(names, line, p);
     Answer {
         outcome: outcome_of(p, k),
-        settings: planstate::settings_after(st, p),
+        settings: call_state::settings_after(st, p),
     }
 }
 

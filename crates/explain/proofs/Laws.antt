@@ -8,11 +8,11 @@ use mir.Syntax.{w64}
 use lib.ListN.{length, take, drop, length-append, length-take, length-drop}
 use lib.Seq.{length-take-le}
 use Rattle.rules.specs.declared.Settings.{Settings}
-use Rattle.explaining.specs.declared.Told.{Told}
-use Rattle.explaining.specs.Explains.{started, blockExplained, Stands}
-use Rattle.explaining.proofs.Blocks.{block-within}
-use Rattle.input.specs.State.{Within}
-use Rattle.input.specs.declared.State.{State}
+use Rattle.explain_block.specs.declared.Told.{Told}
+use Rattle.explain_block.specs.Explains.{started, blockExplained, Stands}
+use Rattle.explain_block.proofs.Blocks.{block-within}
+use Rattle.feed_input.specs.State.{Within}
+use Rattle.feed_input.specs.declared.State.{State}
 
 -- ---- after the lines between two places are explained
 

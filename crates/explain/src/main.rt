@@ -1,14 +1,14 @@
-// The explaining program: day lines on standard input, a line of explanation for each on standard output (crate explainline).
+// The explaining program: day lines on standard input, a line of explanation for each on standard output (crate explain_text).
 // A day may have any length: input is read in blocks, lines are explained as parts of a block.
-use input::State;
+use call_table::NAMES_SIZE;
+use call_table::Names;
+use call_table::TABLE_SIZE;
+use call_table::Table;
+use feed_input::State;
 use libc::STDOUT_FILENO;
-use table::NAMES_SIZE;
-use table::Names;
-use table::TABLE_SIZE;
-use table::Table;
 ghost use Prim.Native.Nat.{_≤_, _<_};
 ghost use lib.ListN.{length};
-ghost use Rattle.input.specs.State.{Within};
+ghost use Rattle.feed_input.specs.State.{Within};
 
 // Writes what was gathered, and answers whether all of it was taken.
 fn write_out(text: &[u8], n: usize) -> bool
@@ -31,13 +31,13 @@ fn explain_block(
     let at = s.at;
     let have = s.have;
     let settings = s.settings;
-    let f = explaining::explain_lines(settings, s.number, table, names, &block[at..have], text);
+    let f = explain_block::explain_lines(settings, s.number, table, names, &block[at..have], text);
     let next = at + f.at;
     if !write_out(text, f.text) {
-        return input::stopped(s);
+        return feed_input::stopped(s);
     }
     let after = f.settings;
-    input::gone_on(s, after, f.number, next)
+    feed_input::gone_on(s, after, f.number, next)
 }
 
 // All that is left is explained as one line: the last line, or the first block of a line that is longer.
@@ -54,12 +54,12 @@ fn explain_rest(
     let at = s.at;
     let have = s.have;
     let settings = s.settings;
-    let f = explaining::explain_last(settings, s.number, table, names, &block[at..have], text);
+    let f = explain_block::explain_last(settings, s.number, table, names, &block[at..have], text);
     if !write_out(text, f.text) {
-        return input::stopped(s);
+        return feed_input::stopped(s);
     }
     let after = f.settings;
-    input::all_taken(s, after, f.number)
+    feed_input::all_taken(s, after, f.number)
 }
 
 // No line feed is left: a block that is not full is filled up, any other is explained as a line.
@@ -74,10 +74,10 @@ fn refill(
     ensures { λ r. ⌜ Within r (length (now (block .exit))) ⌝ }
 {
     if 9999999999 < s.number {
-        return input::stopped(s);
+        return feed_input::stopped(s);
     }
     if s.have - s.at < block.len() {
-        return input::read_more(s, block);
+        return feed_input::read_more(s, block);
     }
     explain_rest(s, table, names, block, text)
 }
@@ -88,7 +88,7 @@ fn turn(s: State, table: &mut Table, names: &mut Names, block: &mut [u8], text: 
     ensures { λ r. ⌜ Within r (length (now (block .exit))) ⌝ }
 {
     if s.passing {
-        return input::pass(s, block);
+        return feed_input::pass(s, block);
     }
     let r = explain_block(s, table, names, block, text);
     if !r.going {
@@ -104,7 +104,7 @@ fn turn(s: State, table: &mut Table, names: &mut Names, block: &mut [u8], text: 
 fn run(table: &mut Table, names: &mut Names, block: &mut [u8], text: &mut [u8])
     requires { ⌜ 0 < length (now block) ⌝ }
 {
-    let mut s = input::started();
+    let mut s = feed_input::started();
     let mut turns = u64::MAX;
     while 0 < turns && s.going {
         s = turn(s, table, names, block, text);

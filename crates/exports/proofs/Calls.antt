@@ -10,12 +10,12 @@ use Rattle.rules.specs.Line.{modeOf}
 use Rattle.rules.specs.declared.Mode.{Mode}
 use Rattle.rules.specs.declared.Mode.the-variants.{Normal, Dvd, Rpo, Mpv}
 use Rattle.rules.specs.declared.Settings.{Settings}
-use Rattle.planner.specs.declared.Plan.{Plan}
-use Rattle.planner.specs.declared.Plan.the-variants.{Stop, Open, Enter, Change, Level, Step, Print, Cancel, Correct}
-use Rattle.planprint.specs.Print.{textOf, printOf}
-use Rattle.planstate.specs.After.{settingsAfter, tableAfter, namesAfter}
+use Rattle.call_plan.specs.declared.Plan.{Plan}
+use Rattle.call_plan.specs.declared.Plan.the-variants.{Stop, Open, Enter, Change, Level, Step, Print, Cancel, Correct}
+use Rattle.call_print.specs.Print.{textOf, printOf}
+use Rattle.call_state.specs.After.{settingsAfter, tableAfter, namesAfter}
 use Rattle.engine.specs.Taken.{asked, outcomeOf, Taken}
-use Rattle.calls.specs.Run.{countOf}
+use Rattle.claim_calls.specs.Run.{countOf}
 use Rattle.exports.specs.Numbers.{letterOf, numbersOf, settingsOf, answerOf, leftBy, outcomeAt, TakenNumbers, Kept}
 
 -- ---- settings come back from their numbers

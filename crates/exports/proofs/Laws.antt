@@ -10,19 +10,19 @@ use Rattle.rules.specs.Shown.{shownBy}
 use Rattle.rules.specs.declared.Mode.{Mode}
 use Rattle.rules.specs.declared.Refusal.{Refusal}
 use Rattle.rules.specs.declared.Settings.{Settings}
-use Rattle.table.specs.Rows.{dayOf}
-use Rattle.facts.specs.declared.Entry.{Entry}
-use Rattle.facts.specs.Entry.{factIn}
-use Rattle.factnumbers.specs.Numbers.{entryNumbers}
+use Rattle.call_table.specs.Rows.{dayOf}
+use Rattle.facts_entry.specs.declared.Entry.{Entry}
+use Rattle.facts_entry.specs.Entry.{factIn}
+use Rattle.facts_numbers.specs.Numbers.{entryNumbers}
 use Rattle.engine.specs.declared.Outcome.{Outcome}
 use Rattle.engine.specs.declared.Outcome.the-variants.{Accepted, Refused}
 use Rattle.engine.specs.declared.Answer.{Answer}
 use Rattle.engine.specs.Taken.{Taken}
-use Rattle.calls.specs.Run.{countOf}
+use Rattle.claim_calls.specs.Run.{countOf}
 use Rattle.reader.specs.declared.ReadAnswer.{ReadAnswer}
 use Rattle.reader.specs.declared.ReadAnswer.the-variants as read
 use Rattle.reader.specs.Read.{readAt}
-use Rattle.readout.specs.Numbers.{numbersAt}
+use Rattle.read_numbers.specs.Numbers.{numbersAt}
 use Rattle.exports.specs.Numbers.{numbersOf, settingsOf, answerOf, leftBy, TakenNumbers}
 use Rattle.exports.specs.Reading.{readAnswer, ReadNumbers}
 

@@ -9,8 +9,8 @@ use Rattle.reader.specs.declared.ReadAnswer.{ReadAnswer}
 use Rattle.reader.specs.declared.ReadAnswer.the-variants.{Announcement, Trade, Cancel, Error, Correction, Refused}
 use Rattle.reader.specs.Read.{readAt}
 use Rattle.reader.specs.Told.{lengthOf, nameFrom, nameLength, factIn}
-use Rattle.readout.specs.Numbers.{factNumbers, numbersOf, numbersAt}
-use Rattle.readout.proofs.Refusals.{refused-by}
+use Rattle.read_numbers.specs.Numbers.{factNumbers, numbersOf, numbersAt}
+use Rattle.read_numbers.proofs.Refusals.{refused-by}
 use Rattle.exports.specs.Reading.{readAnswer, ReadNumbers, Unread}
 
 module _ (tape : List ℕ) (place : ℕ) where

@@ -12,9 +12,9 @@ use Rattle.rules.specs.declared.Settings.{Settings}
 use Rattle.engine.specs.declared.Outcome.{Outcome}
 use Rattle.engine.specs.declared.Outcome.the-variants.{Accepted, Refused}
 use Rattle.engine.specs.Taken.{asked, outcomeOf}
-use Rattle.calls.specs.Run.{countOf}
-use Rattle.planprint.specs.Print.{printOf}
-use Rattle.planstate.specs.After.{settingsAfter, tableAfter, namesAfter}
+use Rattle.claim_calls.specs.Run.{countOf}
+use Rattle.call_print.specs.Print.{printOf}
+use Rattle.call_state.specs.After.{settingsAfter, tableAfter, namesAfter}
 
 -- ---- settings: date (0 before a D is accepted), the letter of an M line, delete level, MPV level
 

@@ -9,7 +9,7 @@ use Rattle.reader.specs.declared.ReadAnswer.{ReadAnswer}
 use Rattle.reader.specs.declared.ReadAnswer.the-variants.{Announcement, Trade, Cancel, Error, Correction, Refused}
 use Rattle.reader.specs.Read.{readAt}
 use Rattle.reader.specs.Told.{factIn}
-use Rattle.readout.specs.Numbers.{numbersAt}
+use Rattle.read_numbers.specs.Numbers.{numbersAt}
 
 -- 0 where a print stands there, else document 01's number of the refusal
 abbrev pub readAnswer : ReadAnswer → ℕ

@@ -1,18 +1,18 @@
 // The engine and the reader for C and Rust: functions on numbers and lent memory, with no `requires`. An array of fixed size
 // passes as a pointer, a slice as a pointer and its length; what is lent for writing overlaps nothing else that is lent.
+use call_table::Names;
+use call_table::Table;
 use engine::Outcome;
 use reader::ReadAnswer;
 use rules::Mode;
 use rules::Settings;
-use table::Names;
-use table::Table;
 ghost use mathlib.Core.Path.{_≡_};
 ghost use Rattle.rules.specs.Day.{opened};
 ghost use Rattle.rules.specs.Shown.{shownBy};
 ghost use Rattle.rules.specs.Line.{modeOf};
-ghost use Rattle.table.specs.Rows.{dayOf};
-ghost use Rattle.calls.specs.Run.{countOf};
-ghost use Rattle.factnumbers.specs.Numbers.{entryNumbers};
+ghost use Rattle.call_table.specs.Rows.{dayOf};
+ghost use Rattle.claim_calls.specs.Run.{countOf};
+ghost use Rattle.facts_numbers.specs.Numbers.{entryNumbers};
 ghost use Rattle.exports.specs.Numbers.{letterOf, numbersOf, settingsOf, answerOf, leftBy, TakenNumbers};
 ghost use Rattle.exports.specs.Reading.{readAnswer, ReadNumbers};
 
@@ -70,7 +70,7 @@ fn answer_of(o: Outcome) -> u64
 {
     match o {
         Outcome::Accepted(_) => 0,
-        Outcome::Refused(x) => lines::number_of(x),
+        Outcome::Refused(x) => feed_lines::number_of(x),
     }
 }
 
@@ -101,7 +101,7 @@ fn read_answer(r: ReadAnswer) -> u64
         ReadAnswer::Cancel(_) => 0,
         ReadAnswer::Error(_) => 0,
         ReadAnswer::Correction(_) => 0,
-        ReadAnswer::Refused(x) => lines::number_of(x),
+        ReadAnswer::Refused(x) => feed_lines::number_of(x),
     }
 }
 
@@ -152,8 +152,8 @@ pub extern "C" fn lekphimon_shown(
     ensures { λ r. ⌜ now (numbers .exit) ≡ entryNumbers (shownBy (dayOf (settingsOf (now (settings .entry))) (now (table .entry)) (now (names .entry))) (record { line = now (line .entry); room = room })) ⌝ }
 {
     let st = settings_of(settings);
-    let entry = facts::entry_of(st, table, names, line, room);
-    *numbers = factnumbers::numbers_of(entry);
+    let entry = facts_entry::entry_of(st, table, names, line, room);
+    *numbers = facts_numbers::numbers_of(entry);
 }
 
 // The reader at a place: 0 where a print stands there, 14 where none does; its fourteen numbers are those of `numbersAt`
@@ -164,6 +164,6 @@ pub extern "C" fn lekphimon_read_at(tape: &[u8], place: usize, numbers: &mut [u6
     ensures { λ r. ⌜ ReadNumbers (now (tape .entry)) place (now (numbers .exit)) r ⌝ }
 {
     let r = reader::read_at(tape, place);
-    *numbers = readout::numbers_of(tape, place, r);
+    *numbers = read_numbers::numbers_of(tape, place, r);
     read_answer(r)
 }

@@ -9,13 +9,13 @@ use mir.Syntax.{w64}
 use lib.Dec.{leb}
 use lib.ListN.{length, take, drop, length-append, length-take}
 use Rattle.rules.specs.declared.Settings.{Settings}
-use Rattle.blocks.specs.Lines.{cut}
-use Rattle.lines.specs.Handed.{unlines}
-use Rattle.lines.proofs.Whole.{cut-whole}
-use Rattle.showing.specs.Shows.{Progress, started, lineShown, linesShown, blockShown, Stands, factRoom}
-use Rattle.showing.specs.declared.Shown.{Shown}
-use Rattle.input.specs.State.{Within}
-use Rattle.input.specs.declared.State.{State}
+use Rattle.feed_blocks.specs.Lines.{cut}
+use Rattle.feed_lines.specs.Handed.{unlines}
+use Rattle.feed_lines.proofs.Whole.{cut-whole}
+use Rattle.facts_block.specs.Shows.{Progress, started, lineShown, linesShown, blockShown, Stands, factRoom}
+use Rattle.facts_block.specs.declared.Shown.{Shown}
+use Rattle.feed_input.specs.State.{Within}
+use Rattle.feed_input.specs.declared.State.{State}
 
 -- no more bytes are read than the lines have
 shown-at : (room : ℕ) (ls : List (List ℕ)) (p : Progress) → linesShown room ls p .at ≤ p .at + length (unlines ls)

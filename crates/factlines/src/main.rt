@@ -1,14 +1,14 @@
 // The facts program: a day of any length on standard input, the lines of its shown facts on standard output. Input is read in
 // blocks; lines are shown as parts of a block.
-use input::State;
+use call_table::NAMES_SIZE;
+use call_table::Names;
+use call_table::TABLE_SIZE;
+use call_table::Table;
+use feed_input::State;
 use libc::STDOUT_FILENO;
-use table::NAMES_SIZE;
-use table::Names;
-use table::TABLE_SIZE;
-use table::Table;
 ghost use Prim.Native.Nat.{_≤_, _<_};
 ghost use lib.ListN.{length};
-ghost use Rattle.input.specs.State.{Within};
+ghost use Rattle.feed_input.specs.State.{Within};
 
 // Writes what was gathered, and answers whether all of it was taken.
 fn write_out(facts: &[u8], n: usize) -> bool
@@ -31,13 +31,13 @@ fn show_block(
     let at = s.at;
     let have = s.have;
     let settings = s.settings;
-    let f = showing::show_lines(settings, table, names, &block[at..have], facts);
+    let f = facts_block::show_lines(settings, table, names, &block[at..have], facts);
     let next = at + f.at;
     if !write_out(facts, f.facts) {
-        return input::stopped(s);
+        return feed_input::stopped(s);
     }
     let after = f.settings;
-    input::gone_on(s, after, s.number, next)
+    feed_input::gone_on(s, after, s.number, next)
 }
 
 // All that is left as one line: the last line, or the first block of a line that is longer.
@@ -54,12 +54,12 @@ fn show_rest(
     let at = s.at;
     let have = s.have;
     let settings = s.settings;
-    let f = showing::show_last(settings, table, names, &block[at..have], facts);
+    let f = facts_block::show_last(settings, table, names, &block[at..have], facts);
     if !write_out(facts, f.facts) {
-        return input::stopped(s);
+        return feed_input::stopped(s);
     }
     let after = f.settings;
-    input::all_taken(s, after, s.number)
+    feed_input::all_taken(s, after, s.number)
 }
 
 // No line feed is left: a block that is not full is filled up, any other is shown as a line.
@@ -74,7 +74,7 @@ fn refill(
     ensures { λ r. ⌜ Within r (length (now (block .exit))) ⌝ }
 {
     if s.have - s.at < block.len() {
-        return input::read_more(s, block);
+        return feed_input::read_more(s, block);
     }
     show_rest(s, table, names, block, facts)
 }
@@ -85,7 +85,7 @@ fn turn(s: State, table: &mut Table, names: &mut Names, block: &mut [u8], facts:
     ensures { λ r. ⌜ Within r (length (now (block .exit))) ⌝ }
 {
     if s.passing {
-        return input::pass(s, block);
+        return feed_input::pass(s, block);
     }
     let r = show_block(s, table, names, block, facts);
     if !r.going {
@@ -101,7 +101,7 @@ fn turn(s: State, table: &mut Table, names: &mut Names, block: &mut [u8], facts:
 fn run(table: &mut Table, names: &mut Names, block: &mut [u8], facts: &mut [u8])
     requires { ⌜ 0 < length (now block) ⌝ }
 {
-    let mut s = input::started();
+    let mut s = feed_input::started();
     let mut turns = u64::MAX;
     while 0 < turns && s.going {
         s = turn(s, table, names, block, facts);

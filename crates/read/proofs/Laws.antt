@@ -10,10 +10,10 @@ use lib.ListN.{length, take, drop, length-drop}
 use lib.Seq.{length-take-le}
 use borrow.Author.Tests.{not-false}
 use Rattle.rules.specs.Sizes.{longestPrint}
-use Rattle.prints.specs.declared.Reading.{Reading}
-use Rattle.prints.specs.Block.{mayRead, blockRead, Stands}
-use Rattle.prints.proofs.Blocks.{lines-length}
-use Rattle.prints.proofs.LookAhead.{may-not, may-none, block-within, block-placed, block-moves}
+use Rattle.read_tape.specs.declared.Reading.{Reading}
+use Rattle.read_tape.specs.Block.{mayRead, blockRead, Stands}
+use Rattle.read_tape.proofs.Blocks.{lines-length}
+use Rattle.read_tape.proofs.LookAhead.{may-not, may-none, block-within, block-placed, block-moves}
 use Rattle.read.specs.State.{Within, Kept}
 use Rattle.read.specs.declared.State.{State}
 

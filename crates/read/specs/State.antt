@@ -4,7 +4,7 @@ use mathlib.Core.Path.{_≡_}
 use mathlib.Core.Bool.{true, false}
 use mathlib.Core.List.{List}
 use Rattle.rules.specs.Sizes.{longestPrint}
-use Rattle.refill.specs.Block.{unused}
+use Rattle.feed_refill.specs.Block.{unused}
 use Rattle.read.specs.declared.State.{State}
 
 -- the part that is not yet read lies in a block of n bytes

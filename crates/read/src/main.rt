@@ -59,7 +59,7 @@ fn read_more(s: State, block: &mut [u8]) -> State
     let at = s.at;
     let have = s.have;
     let rest = have - at;
-    let n = refill::read_behind(block, at, have);
+    let n = feed_refill::read_behind(block, at, have);
     State {
         place: s.place,
         at: 0,
@@ -76,7 +76,7 @@ fn read_prints(s: State, block: &[u8], lines: &mut [u8]) -> State
 {
     let at = s.at;
     let have = s.have;
-    let r = prints::read_block(&block[at..have], s.place, s.ended, lines);
+    let r = read_tape::read_block(&block[at..have], s.place, s.ended, lines);
     let n = r.written;
     if !io::write_all(STDOUT_FILENO, &lines[..n]) {
         return stopped();

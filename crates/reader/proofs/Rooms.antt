@@ -10,20 +10,20 @@ use Rattle.text.specs.Bytes.{bytes}
 use Rattle.text.specs.Reading.{starts}
 use Rattle.text.proofs.Parts.{rest-is, starts-within}
 use Rattle.rules.specs.declared.Letters.{Letters}
-use Rattle.heading.specs.declared.NameRead.{NameRead}
-use Rattle.heading.specs.declared.NameAnswer.{NameAnswer}
-use Rattle.heading.specs.declared.NameAnswer.the-variants.{Named}
-use Rattle.heading.specs.declared.AgainRead.{AgainRead}
-use Rattle.heading.specs.declared.AgainAnswer.{AgainAnswer}
-use Rattle.heading.specs.declared.AgainAnswer.the-variants.{Again}
-use Rattle.heading.specs.Head.{headAt, againAt}
-use Rattle.heading.proofs.Bounds.{head-used, head-length, head-short, again-used}
-use Rattle.sideread.specs.declared.Beside.{Beside}
-use Rattle.sideread.specs.declared.SideRead.{SideRead}
-use Rattle.sideread.specs.declared.SideAnswer.{SideAnswer}
-use Rattle.sideread.specs.declared.SideAnswer.the-variants.{Sided}
-use Rattle.sideread.specs.Side.{sideAt}
-use Rattle.sideread.proofs.Bounds.{side-within}
+use Rattle.read_name.specs.declared.NameRead.{NameRead}
+use Rattle.read_name.specs.declared.NameAnswer.{NameAnswer}
+use Rattle.read_name.specs.declared.NameAnswer.the-variants.{Named}
+use Rattle.read_name.specs.declared.AgainRead.{AgainRead}
+use Rattle.read_name.specs.declared.AgainAnswer.{AgainAnswer}
+use Rattle.read_name.specs.declared.AgainAnswer.the-variants.{Again}
+use Rattle.read_name.specs.Head.{headAt, againAt}
+use Rattle.read_name.proofs.Bounds.{head-used, head-length, head-short, again-used}
+use Rattle.read_side.specs.declared.Beside.{Beside}
+use Rattle.read_side.specs.declared.SideRead.{SideRead}
+use Rattle.read_side.specs.declared.SideAnswer.{SideAnswer}
+use Rattle.read_side.specs.declared.SideAnswer.the-variants.{Sided}
+use Rattle.read_side.specs.Side.{sideAt}
+use Rattle.read_side.proofs.Bounds.{side-within}
 
 -- ---- as the code cuts it out
 

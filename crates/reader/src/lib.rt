@@ -1,13 +1,13 @@
 // The reader (document 01, "Reader"): the longest normal print at a place of a tape, its undivided name and its facts.
-use heading::AgainAnswer;
-use heading::NameAnswer;
-use heading::NameRead;
+use read_name::AgainAnswer;
+use read_name::NameAnswer;
+use read_name::NameRead;
+use read_side::Beside;
+use read_side::SideAnswer;
+use read_side::SideRead;
 use rules::Letters;
 use rules::Refusal;
 use rules::Side;
-use sideread::Beside;
-use sideread::SideAnswer;
-use sideread::SideRead;
 ghost use mathlib.Core.Path.{_≡_};
 ghost use mathlib.Core.Bool.{true, false};
 ghost use Prim.Native.Nat.{_+_, _-_, _≤_};
@@ -16,9 +16,9 @@ ghost use lib.ListN.{length, take, drop};
 ghost use Rattle.text.specs.Reading.{starts};
 ghost use Rattle.rules.specs.Correction.{repeatsName};
 ghost use Rattle.rules.specs.Line.{alike};
-ghost use Rattle.heading.specs.Head.{headAt, againAt};
-ghost use Rattle.sideread.specs.Side.{sideAt};
-ghost use Rattle.sideread.specs.declared.SideAnswer.the-variants.{Sided};
+ghost use Rattle.read_name.specs.Head.{headAt, againAt};
+ghost use Rattle.read_side.specs.Side.{sideAt};
+ghost use Rattle.read_side.specs.declared.SideAnswer.the-variants.{Sided};
 ghost use Rattle.reader.specs.Read.{tradeHead, tradeAt, endAt, endedBy, cancelHead, cancelAt, amended, correctedBy, secondSide, secondHead, secondAt, correctionHead, correctionAt, announcedBy, printAt, readAt};
 ghost use Rattle.reader.specs.Told.{lengthOf, nameFrom, nameLength, nameAt};
 
@@ -56,21 +56,21 @@ fn stands(s: &[u8], n: usize, p: &[u8]) -> bool
     requires { ⌜ n ≤ length (now s) ⌝ }
     ensures { λ r. ⌜ r ≡ starts (now (p .entry)) (drop n (now (s .entry))) ⌝ }
 {
-    scan::starts_with(&s[n..], p)
+    read_price::starts_with(&s[n..], p)
 }
 
 fn head_from(s: &[u8], n: usize, temporary: bool) -> NameAnswer
     requires { ⌜ n ≤ length (now s) ⌝ }
     ensures { λ r. ⌜ r ≡ headAt temporary (drop n (now (s .entry))) ⌝ }
 {
-    heading::head_at(&s[n..], temporary)
+    read_name::head_at(&s[n..], temporary)
 }
 
 fn side_from(s: &[u8], n: usize, first: Beside, letters: Letters, a: bool, b: bool) -> SideAnswer
     requires { ⌜ n ≤ length (now s) ⌝ }
     ensures { λ r. ⌜ r ≡ sideAt first letters a b (drop n (now (s .entry))) ⌝ }
 {
-    sideread::side_at(first, letters, a, b, &s[n..])
+    read_side::side_at(first, letters, a, b, &s[n..])
 }
 
 // The head of a correcting trade, whose name has k bytes behind the seven of the opening.
@@ -79,7 +79,7 @@ fn again_from(s: &[u8], n: usize, k: usize) -> AgainAnswer
     ensures { λ r. ⌜ r ≡ againAt (take k (drop 7 (now (s .entry)))) (drop n (now (s .entry))) ⌝ }
 {
     let to = 7 + k;
-    heading::again_at(&s[n..], &s[7..to])
+    read_name::again_at(&s[n..], &s[7..to])
 }
 
 // ---- a trade: head and side
@@ -109,7 +109,7 @@ fn trade_head(s: &[u8], head: NameAnswer) -> ReadAnswer
 fn trade_at(s: &[u8]) -> ReadAnswer
     ensures { λ r. ⌜ r ≡ tradeAt (now (s .entry)) ⌝ }
 {
-    trade_head(s, heading::head_at(s, true))
+    trade_head(s, read_name::head_at(s, true))
 }
 
 // ---- a cancel or an error: an opening of six bytes, head, side and end pair
@@ -202,7 +202,7 @@ fn corrected_by(h: NameRead, x: Side, y: Side, n: usize) -> ReadAnswer
 fn repeats_duly(x: Letters, u: usize) -> bool
     ensures { λ r. ⌜ r ≡ alike (repeatsName x) (leb 1 u) ⌝ }
 {
-    if qualifying::repeats_name(x) {
+    if decide_letters::repeats_name(x) {
         return 1 <= u;
     }
     u < 1
@@ -293,16 +293,16 @@ fn announced_by(n: usize) -> ReadAnswer
 fn print_at(s: &[u8]) -> ReadAnswer
     ensures { λ r. ⌜ r ≡ printAt (now (s .entry)) ⌝ }
 {
-    if scan::starts_with(s, b"<<<") {
-        return announced_by(announced::announcement_at(s));
+    if read_price::starts_with(s, b"<<<") {
+        return announced_by(read_announcement::announcement_at(s));
     }
-    if scan::starts_with(s, b"<<CORR.") {
+    if read_price::starts_with(s, b"<<CORR.") {
         return correction_at(s);
     }
-    if scan::starts_with(s, b"<<CXL.") {
+    if read_price::starts_with(s, b"<<CXL.") {
         return cancel_at(s, false);
     }
-    if scan::starts_with(s, b"<<ERR.") {
+    if read_price::starts_with(s, b"<<ERR.") {
         return cancel_at(s, true);
     }
     trade_at(s)

@@ -19,7 +19,7 @@ pub const PLACES: usize = 512;
 // The columns of a name on an S line (Names).
 pub const NAME_WIDTH: usize = 19;
 
-// Every print has room in it (Lines not taken, 13): none is longer (crate daytape).
+// Every print has room in it (Lines not taken, 13): none is longer (crate claim_daytape).
 pub const LONGEST_PRINT: usize = 400;
 
 // What stands in a number's columns (Day lines).

@@ -8,8 +8,8 @@ use Rattle.reader.specs.declared.ReadAnswer.{ReadAnswer}
 use Rattle.reader.specs.Read.{readAt}
 use Rattle.reader.specs.Told.{lengthOf}
 use Rattle.reader.proofs.Bounds.{read-length}
-use Rattle.told.specs.Lines.{toldLine}
-use Rattle.told.proofs.Short.{told-short}
+use Rattle.read_told.specs.Lines.{toldLine}
+use Rattle.read_told.proofs.Short.{told-short}
 
 pub line-room : (tape : List ℕ) (place m : ℕ) → length tape ≤ 8192 → place < length tape → 8704 ≤ m → length (toldLine tape place) ≤ m
 line-room tape place m h k l = omega (arith, told-short tape place (omega arith) (omega arith), l)

@@ -20,7 +20,7 @@ fn tape_name(n: u8) -> [u8; 7]
 fn show_print(tape: &[u8], place: usize, line: &mut [u8]) -> bool
     requires { ⌜ (length (now tape) ≤ 8192) × ((place < length (now tape)) × (8704 ≤ length (now line))) ⌝ }
 {
-    let k = told::write_told(line, tape, place);
+    let k = read_told::write_told(line, tape, place);
     io::write_all(STDOUT_FILENO, &line[..k])
 }
 

@@ -5,10 +5,10 @@ use mathlib.Core.List.{List}
 use lib.ListN.{length}
 use Rattle.rules.specs.Day.{opened}
 use Rattle.rules.specs.declared.Settings.{Settings}
-use Rattle.lines.specs.declared.Fed.{Fed}
-use Rattle.lines.specs.Feed.{started, blockTaken, Stands}
-use Rattle.showing.specs.declared.Shown.{Shown}
-use Rattle.showing.specs.Shows as shows
+use Rattle.feed_lines.specs.declared.Fed.{Fed}
+use Rattle.feed_lines.specs.Feed.{started, blockTaken, Stands}
+use Rattle.facts_block.specs.declared.Shown.{Shown}
+use Rattle.facts_block.specs.Shows as shows
 
 -- what is fed from the settings of a fresh state
 pub from-fresh : (st : Settings) (block table names tape₀ refusals₀ table′ names′ tape refusals : List ℕ) (number : ℕ) (f : Fed)

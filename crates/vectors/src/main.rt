@@ -1,19 +1,19 @@
 // The stored days: the engine runs over each day file of data/, and what it writes is held to the stored answers, the file
 // stdout: for each day its tape, a line feed, and its refused lines; behind them, for days 01 to 16, the lines of its shown
 // facts. A day file is shorter than 65,536 bytes.
+use call_table::NAMES_SIZE;
+use call_table::Names;
+use call_table::TABLE_SIZE;
+use call_table::Table;
+use facts_block::Shown;
+use feed_lines::Fed;
 use libc::STDOUT_FILENO;
-use lines::Fed;
-use showing::Shown;
-use table::NAMES_SIZE;
-use table::Names;
-use table::TABLE_SIZE;
-use table::Table;
 ghost use mathlib.Core.Path.{_≡_};
 ghost use Prim.Native.Nat.{_≤_, _<_};
 ghost use lib.ListN.{length, take};
 ghost use Rattle.rules.specs.Day.{opened};
-ghost use Rattle.lines.specs.Feed.{started, blockTaken, Stands};
-ghost use Rattle.showing.specs.Shows as shows;
+ghost use Rattle.feed_lines.specs.Feed.{started, blockTaken, Stands};
+ghost use Rattle.facts_block.specs.Shows as shows;
 ghost use Rattle.vectors.specs.Names.{dayName};
 
 // The name of day n.
@@ -53,7 +53,7 @@ fn take_day(
     ensures { λ r. ⌜ Stands (now (tape .entry)) (now (refusals .entry)) (blockTaken (length (now (tape .entry))) (length (now (refusals .entry))) (now (day .entry)) (started (opened 0) (now (table .entry)) (now (names .entry)) 1)) (now (table .exit)) (now (names .exit)) (now (tape .exit)) (now (refusals .exit)) r ⌝ }
 {
     let settings = engine::fresh();
-    lines::feed(settings, 1, table, names, day, tape, refusals)
+    feed_lines::feed(settings, 1, table, names, day, tape, refusals)
 }
 
 // Writes what was gathered, and answers whether all of it was taken.
@@ -89,7 +89,7 @@ fn take_facts(table: &mut Table, names: &mut Names, day: &[u8], facts: &mut [u8]
     ensures { λ r. ⌜ shows.Stands (now (facts .entry)) (shows.blockShown (length (now (facts .entry))) (now (day .entry)) (shows.started (opened 0) (now (table .entry)) (now (names .entry)))) (now (table .exit)) (now (names .exit)) (now (facts .exit)) r ⌝ }
 {
     let settings = engine::fresh();
-    showing::show_lines(settings, table, names, day, facts)
+    facts_block::show_lines(settings, table, names, day, facts)
 }
 
 // Writes them, of the day that the block's first n bytes are.

@@ -1,4 +1,4 @@
-use Rattle.input.proofs.Laws.{over-within}
+use Rattle.feed_input.proofs.Laws.{over-within}
 use borrow.Author.Needs.{needs}
 use Rattle.day.proofs.refill.Statement.{statement}
 use Rattle.day.proofs.refill.Tie as tie

@@ -2,8 +2,8 @@
 use native.Mathlib.Omega.{arith}
 use mathlib.Core.Path.{_≡_, refl}
 use lib.ListN.{length}
-use Rattle.input.specs.State.{Within}
-use Rattle.input.proofs.Laws.{opening-within}
+use Rattle.feed_input.specs.State.{Within}
+use Rattle.feed_input.proofs.Laws.{opening-within}
 use borrow.Author.Needs.{needs}
 use Rattle.day.proofs.run.Statement.{statement}
 use Rattle.day.proofs.run.Tie as tie

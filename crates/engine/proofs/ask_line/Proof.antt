@@ -1,4 +1,4 @@
-use Rattle.planprint.proofs.Sound.{sound-asked}
+use Rattle.call_print.proofs.Sound.{sound-asked}
 use Rattle.engine.proofs.Steps.{asked-for}
 use borrow.Author.Needs.{needs}
 use Rattle.engine.proofs.ask_line.Statement.{statement}

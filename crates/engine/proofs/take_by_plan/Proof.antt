@@ -1,6 +1,6 @@
-use Rattle.planprint.proofs.Sound.{sound-asked}
+use Rattle.call_print.proofs.Sound.{sound-asked}
 use Rattle.engine.proofs.Steps.{taken}
-use Rattle.planprint.proofs.Room.{fitted-sound, print-fits}
+use Rattle.call_print.proofs.Room.{fitted-sound, print-fits}
 use borrow.Author.Needs.{needs}
 use Rattle.engine.proofs.take_by_plan.Statement.{statement}
 use Rattle.engine.proofs.take_by_plan.Tie as tie

@@ -1,4 +1,4 @@
-use Rattle.input.proofs.Laws.{over-within, gone-within}
+use Rattle.feed_input.proofs.Laws.{over-within, gone-within}
 use Rattle.explain.proofs.Laws.{next-fits, next-within}
 use borrow.Author.Needs.{needs}
 use Rattle.explain.proofs.explain_block.Statement.{statement}

@@ -1,4 +1,4 @@
-use Rattle.input.proofs.Laws.{passed-within}
+use Rattle.feed_input.proofs.Laws.{passed-within}
 use borrow.Author.Needs.{needs}
 use Rattle.explain.proofs.turn.Statement.{statement}
 use Rattle.explain.proofs.turn.Tie as tie

@@ -1,5 +1,5 @@
 use borrow.Author.Needs.{needs}
-use Rattle.calls.specs.Run.{countOf}
+use Rattle.claim_calls.specs.Run.{countOf}
 use Rattle.exports.proofs.count_of.Statement.{statement}
 use Rattle.exports.proofs.count_of.Tie as tie
 

@@ -1,4 +1,4 @@
-use Rattle.input.proofs.Laws.{over-within, gone-within}
+use Rattle.feed_input.proofs.Laws.{over-within, gone-within}
 use Rattle.factlines.proofs.Laws.{next-fits, next-within}
 use borrow.Author.Needs.{needs}
 use Rattle.factlines.proofs.show_block.Statement.{statement}

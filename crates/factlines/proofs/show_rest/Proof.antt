@@ -1,4 +1,4 @@
-use Rattle.input.proofs.Laws.{over-within, all-within}
+use Rattle.feed_input.proofs.Laws.{over-within, all-within}
 use borrow.Author.Needs.{needs}
 use Rattle.factlines.proofs.show_rest.Statement.{statement}
 use Rattle.factlines.proofs.show_rest.Tie as tie

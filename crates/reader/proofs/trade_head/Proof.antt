@@ -1,6 +1,6 @@
 use Rattle.reader.proofs.Prints.{trade-unnamed, trade-unsided, trade-sided}
 use Rattle.reader.proofs.Rooms.{trade-fits}
-use Rattle.heading.proofs.Bounds.{head-used}
+use Rattle.read_name.proofs.Bounds.{head-used}
 use borrow.Author.Needs.{needs}
 use Rattle.reader.proofs.trade_head.Statement.{statement}
 use Rattle.reader.proofs.trade_head.Tie as tie

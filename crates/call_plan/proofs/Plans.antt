@@ -1,0 +1,192 @@
+-- Laws of plans, in the form of the code's needs. Assumes nothing.
+use Prim.Native.Nat.{ℕ, zero, suc, _+_, _-_, _*_, _≤_, _<_}
+use native.Mathlib.Omega.{arith}
+use mathlib.Core.Path.{_≡_, refl, sym, ap, _∙_}
+use mathlib.Core.Bool.{Bool, true, false, _&&_, _||_, not}
+use mathlib.Core.List.{List, [], _∷_}
+use lib.ListN.{take, drop}
+use borrow.Author.Tests.{not-true, not-false}
+use Rattle.rules.specs.Names.{sameName}
+use Rattle.rules.specs.Price.{wholePart, units}
+use Rattle.rules.specs.Conditions.{hasRule}
+use Rattle.rules.specs.Qualifying.{forRange, forLast}
+use Rattle.decide_trade.specs.Value.{printsBy, fullBy, showsBy, afterBy}
+use Rattle.decide_trade.proofs.Value.{side-prints, side-full, side-shows, side-after}
+use Rattle.rules.specs.Correction.{printsCorrection, correctionFull, correctionShows, cancelFull, cancelShows, afterCorrection}
+use Rattle.text.specs.Pick.{pick}
+use Rattle.rules.specs.Day.{isEntered, showsTemporary, entered, takenName}
+use Rattle.rules.specs.declared.Mode.{Mode}
+use Rattle.rules.specs.declared.Listing.{Listing}
+use Rattle.rules.specs.declared.Correction.{Correction}
+use Rattle.rules.specs.declared.Line.{Line}
+use Rattle.rules.specs.declared.Line.the-variants.{Dated, Listed, Moded, Leveled, Stepped, Traded, Cancelled, Erred, Corrected}
+use Rattle.rules.specs.declared.Refusal.the-variants.{InUse, Name, SameName}
+use Rattle.rules.specs.declared.Trade.{Trade}
+use Rattle.rules.specs.declared.Settings.{Settings}
+use Rattle.rules.specs.declared.Security.{Security}
+use Rattle.call_table.specs.Rows.{row, nameOf, rowsFrom, namesFrom}
+use Rattle.call_plan.specs.declared.TradePlan.{TradePlan}
+use Rattle.call_plan.specs.declared.CancelPlan.{CancelPlan}
+use Rattle.call_plan.specs.declared.CorrectionPlan.{CorrectionPlan}
+use Rattle.call_plan.specs.declared.Plan.{Plan}
+use Rattle.call_plan.specs.declared.Plan.the-variants.{Stop, Open, Enter, Change, Level, Step, Print, Cancel, Correct}
+use Rattle.call_plan.specs.Plan.{datePlan, listingPlan, printPlan, tradePlan, cancelOf, cancelPlan, correctionOf, correctionPlan, linePlan, SoundListing, SoundTrade, SoundCorrection, SoundLine}
+
+-- ---- a name among those of entered securities
+
+module _ (table names name : List ℕ) (i : ℕ) (s : Security) (r : Bool) (loaded : s ≡ row table i) (answer : r ≡ isEntered s) where
+  pub vacant-there : not r ≡ true → false ≡ (isEntered (row table i) && sameName name (nameOf names i))
+  vacant-there h = rw (← loaded, ← answer, not-true r h)
+
+  pub entered-there : (x : Bool) → not r ≡ false → x ≡ sameName name (take (i * 19 + 19 - i * 19) (drop (i * 19) names)) → x ≡ (isEntered (row table i) && sameName name (nameOf names i))
+  unfolding nameOf
+  entered-there x h e =
+      let q : i * 19 + 19 - i * 19 ≡ 19 = omega arith in
+      rw (← loaded, ← answer, not-false r h) (rw q at e)
+
+one-less : (i : ℕ) → i < 512 → 512 - i ≡ suc (512 - (i + 1))
+one-less i h = omega arith
+
+module _ (table names name : List ℕ) (i : ℕ) (r x : Bool) (left : takenName name (rowsFrom (512 - i) i table) (namesFrom (512 - i) i names) ≡ x) (more : i < 512) (answer : r ≡ (isEntered (row table i) && sameName name (nameOf names i))) where
+  pub name-hit : r ≡ true → true ≡ x
+  unfolding takenName rowsFrom namesFrom
+  name-hit h = rw (← left, one-less i more, ← answer, h)
+
+  pub name-miss : r ≡ false → takenName name (rowsFrom (512 - (i + 1)) (i + 1) table) (namesFrom (512 - (i + 1)) (i + 1) names) ≡ x
+  unfolding takenName rowsFrom namesFrom
+  name-miss h = sym (rw (one-less i more, ← answer, h) (ap (λ (k : ℕ). takenName name (rowsFrom (512 - (i + 1)) k table) (namesFrom (512 - (i + 1)) k names)) (omega arith))) ∙ left
+
+pub name-none : (table names name : List ℕ) (i : ℕ) (x : Bool) → takenName name (rowsFrom (512 - i) i table) (namesFrom (512 - i) i names) ≡ x → 512 ≤ i → false ≡ x
+unfolding takenName rowsFrom namesFrom
+name-none table names name i x e h = let q : 512 - i ≡ 0 = omega arith in rw (← e, q)
+
+-- ---- a trade
+
+pub planned : (st : Settings) (s : Security) (t : Trade) (value whole : ℕ) (ranges lasts rule a b c d : Bool) (e : Security)
+    → value ≡ units (t .side .price)
+    → whole ≡ wholePart (t .side .price)
+    → ranges ≡ forRange (t .side .letters)
+    → lasts ≡ forLast (t .side .letters)
+    → rule ≡ hasRule (t .side .letters)
+    → a ≡ showsTemporary s
+    → b ≡ printsBy st s (t .market) (t .side .volume) value ranges lasts rule
+    → c ≡ fullBy st s (t .market) whole
+    → d ≡ showsBy st s (t .market) (t .side .volume) lasts rule
+    → e ≡ afterBy s (t .market) value b ranges lasts
+    → (record { place = t .security - 1; side = t .side; network = s .network; unit = s .unit; temporary = a; prints = b; full = c; shows = d; after = e }) ≡ printPlan st s t
+unfolding printPlan
+planned st s t value whole ranges lasts rule a b c d e v w ra la ru p q r u o =
+    let x = t .side in
+    let k = side-prints st s (t .market) x value ranges lasts rule b v ra la ru q in
+    rw (p, side-after st s (t .market) x value b ranges lasts e v k ra la o, k, side-full st s (t .market) x whole c w r, side-shows st s (t .market) x lasts rule d la ru u)
+
+pub trade-there : (st : Settings) (table : List ℕ) (s : Security) (t : Trade) (i : ℕ) (r : Plan) → s ≡ row table i → r ≡ tradePlan st s t → r ≡ tradePlan st (row table i) t
+trade-there st table s t i r e h = rw (← e) h
+
+pub prints : (st : Settings) (s : Security) (t : Trade) (p : TradePlan) → p ≡ printPlan st s t → Print p ≡ Print (printPlan st s t)
+prints st s t p e = ap Print e
+
+-- ---- a cancel, an error, a correction
+
+pub planned-cancel : (error : Bool) (st : Settings) (s : Security) (t : Trade) (a b : Bool) → a ≡ cancelFull st s (t .side) → b ≡ cancelShows st (t .side)
+    → (record { error = error; place = t .security - 1; side = t .side; network = s .network; unit = s .unit; full = a; shows = b }) ≡ cancelOf error st s t
+unfolding cancelOf
+planned-cancel error st s t a b p q = rw (p, q)
+
+pub cancel-there : (error : Bool) (st : Settings) (table : List ℕ) (s : Security) (t : Trade) (i : ℕ) (r : Plan) → s ≡ row table i → r ≡ cancelPlan error st s t → r ≡ cancelPlan error st (row table i) t
+cancel-there error st table s t i r e h = rw (← e) h
+
+pub cancels : (error : Bool) (st : Settings) (s : Security) (t : Trade) (p : CancelPlan) → p ≡ cancelOf error st s t → Cancel p ≡ Cancel (cancelOf error st s t)
+cancels error st s t p e = ap Cancel e
+
+pub planned-correction : (st : Settings) (s : Security) (c : Correction) (a b d : Bool) (e : Security) → a ≡ printsCorrection st s (c .original) (c .correcting) → b ≡ correctionFull st s (c .original) (c .correcting) → d ≡ correctionShows st (c .original) (c .correcting) → e ≡ afterCorrection s (c .correcting)
+    → (record { place = c .security - 1; original = c .original; correcting = c .correcting; network = s .network; unit = s .unit; prints = a; full = b; shows = d; after = e }) ≡ correctionOf st s c
+unfolding correctionOf
+planned-correction st s c a b d e p q r u = rw (p, q, r, u)
+
+pub correction-there : (st : Settings) (table : List ℕ) (s : Security) (c : Correction) (i : ℕ) (r : Plan) → s ≡ row table i → r ≡ correctionPlan st s c → r ≡ correctionPlan st (row table i) c
+correction-there st table s c i r e h = rw (← e) h
+
+pub corrects : (st : Settings) (s : Security) (c : Correction) (p : CorrectionPlan) → p ≡ correctionOf st s c → Correct p ≡ Correct (correctionOf st s c)
+corrects st s c p e = ap Correct e
+
+-- ---- an S line
+
+module _ (table names name : List ℕ) (l : Listing) (s : Security) (r : Bool) (loaded : s ≡ row table (l .number - 1)) (answer : r ≡ isEntered s) where
+  pub in-use : r ≡ true → Stop InUse ≡ listingPlan table names name l
+  unfolding listingPlan pick
+  in-use h = rw (← loaded, ← answer, h)
+
+  pub no-name : r ≡ false → not (l .lawful) ≡ true → Stop Name ≡ listingPlan table names name l
+  unfolding listingPlan pick
+  no-name h k = rw (← loaded, ← answer, h, k)
+
+  pub name-used : (q : Bool) → r ≡ false → not (l .lawful) ≡ false → q ≡ takenName name (rowsFrom 512 0 table) (namesFrom 512 0 names) → q ≡ true → Stop SameName ≡ listingPlan table names name l
+  unfolding listingPlan pick
+  name-used q h k u v = rw (← loaded, ← answer, h, k, ← u, v)
+
+  pub enters : (q : Bool) (e : Security) → r ≡ false → not (l .lawful) ≡ false → q ≡ takenName name (rowsFrom 512 0 table) (namesFrom 512 0 names) → q ≡ false → e ≡ entered l → Enter (l .number - 1) e ≡ listingPlan table names name l
+  unfolding listingPlan pick
+  enters q e h k u v w = rw (← loaded, ← answer, h, k, ← u, v, w)
+
+-- ---- each kind
+
+module _ (st : Settings) (table names name : List ℕ) (l : Line) (x : Plan) where
+  pub line-dated : (n : ℕ) → l ≡ Dated n → x ≡ datePlan st n → x ≡ linePlan st table names name l
+  unfolding linePlan
+  line-dated n e h = rw e h
+
+  pub line-listed : (n : Listing) → l ≡ Listed n → x ≡ listingPlan table names name n → x ≡ linePlan st table names name l
+  unfolding linePlan
+  line-listed n e h = rw e h
+
+  pub line-cancelled : (t : Trade) → l ≡ Cancelled t → x ≡ cancelPlan false st (row table (t .security - 1)) t → x ≡ linePlan st table names name l
+  unfolding linePlan
+  line-cancelled t e h = rw e h
+
+  pub line-erred : (t : Trade) → l ≡ Erred t → x ≡ cancelPlan true st (row table (t .security - 1)) t → x ≡ linePlan st table names name l
+  unfolding linePlan
+  line-erred t e h = rw e h
+
+  pub line-corrected : (c : Correction) → l ≡ Corrected c → x ≡ correctionPlan st (row table (c .security - 1)) c → x ≡ linePlan st table names name l
+  unfolding linePlan
+  line-corrected c e h = rw e h
+
+  pub line-traded : (t : Trade) → l ≡ Traded t → x ≡ tradePlan st (row table (t .security - 1)) t → x ≡ linePlan st table names name l
+  unfolding linePlan
+  line-traded t e h = rw e h
+
+module _ (st : Settings) (table names name : List ℕ) (l : Line) where
+  pub line-moded : (m : Mode) → l ≡ Moded m → Change m ≡ linePlan st table names name l
+  unfolding linePlan
+  line-moded m e = rw e
+
+  pub line-leveled : (n : ℕ) → l ≡ Leveled n → Level n ≡ linePlan st table names name l
+  unfolding linePlan
+  line-leveled n e = rw e
+
+  pub line-stepped : (n : ℕ) → l ≡ Stepped n → Step n ≡ linePlan st table names name l
+  unfolding linePlan
+  line-stepped n e = rw e
+
+pub ruleset kinds = (line-dated, line-listed, line-traded, line-moded, line-leveled, line-stepped, line-cancelled, line-erred, line-corrected)
+
+pub sound-listed : (l : Line) (n : Listing) → SoundLine l → l ≡ Listed n → SoundListing n
+unfolding SoundLine
+sound-listed l n h e = rw e at h
+
+pub sound-cancelled : (l : Line) (t : Trade) → SoundLine l → l ≡ Cancelled t → SoundTrade t
+unfolding SoundLine
+sound-cancelled l t h e = rw e at h
+
+pub sound-erred : (l : Line) (t : Trade) → SoundLine l → l ≡ Erred t → SoundTrade t
+unfolding SoundLine
+sound-erred l t h e = rw e at h
+
+pub sound-corrected : (l : Line) (c : Correction) → SoundLine l → l ≡ Corrected c → SoundCorrection c
+unfolding SoundLine
+sound-corrected l c h e = rw e at h
+
+pub sound-traded : (l : Line) (t : Trade) → SoundLine l → l ≡ Traded t → SoundTrade t
+unfolding SoundLine
+sound-traded l t h e = rw e at h

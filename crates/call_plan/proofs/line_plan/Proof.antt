@@ -1,0 +1,105 @@
+use Rattle.call_plan.proofs.Plans.{kinds, sound-listed, sound-traded, sound-cancelled, sound-erred, sound-corrected}
+use borrow.Author.Needs.{needs}
+use Rattle.call_plan.proofs.line_plan.Statement.{statement}
+use Rattle.call_plan.proofs.line_plan.Tie as tie
+
+enum-known-l : tie.Need-enum-known-l
+enum-known-l c = search needs
+
+date-plan-requires : tie.Need-date-plan-requires
+date-plan-requires c κs = search needs
+
+enum-known-l-2 : tie.Need-enum-known-l-2
+enum-known-l-2 c = search needs
+
+listing-plan-requires : tie.Need-listing-plan-requires
+listing-plan-requires c κs = (search sound-listed, search needs)
+
+enum-known-l-3 : tie.Need-enum-known-l-3
+enum-known-l-3 c = search needs
+
+enum-known-l-4 : tie.Need-enum-known-l-4
+enum-known-l-4 c = search needs
+
+enum-known-l-5 : tie.Need-enum-known-l-5
+enum-known-l-5 c = search needs
+
+enum-known-l-6 : tie.Need-enum-known-l-6
+enum-known-l-6 c = search needs
+
+trade-at-requires : tie.Need-trade-at-requires
+trade-at-requires c κs = search sound-traded
+
+enum-known-l-7 : tie.Need-enum-known-l-7
+enum-known-l-7 c = search needs
+
+cancel-at-requires : tie.Need-cancel-at-requires
+cancel-at-requires c κs = search sound-cancelled
+
+enum-known-l-8 : tie.Need-enum-known-l-8
+enum-known-l-8 c = search needs
+
+cancel-at-requires-2 : tie.Need-cancel-at-requires-2
+cancel-at-requires-2 c κs = search sound-erred
+
+enum-known-l-9 : tie.Need-enum-known-l-9
+enum-known-l-9 c = search needs
+
+correction-at-requires : tie.Need-correction-at-requires
+correction-at-requires c κs = search sound-corrected
+
+returns : tie.Need-returns
+returns c = search kinds
+
+returns-2 : tie.Need-returns-2
+returns-2 c = search kinds
+
+returns-3 : tie.Need-returns-3
+returns-3 c = search kinds
+
+returns-4 : tie.Need-returns-4
+returns-4 c = search kinds
+
+returns-5 : tie.Need-returns-5
+returns-5 c = search kinds
+
+returns-6 : tie.Need-returns-6
+returns-6 c = search kinds
+
+returns-7 : tie.Need-returns-7
+returns-7 c = search kinds
+
+returns-8 : tie.Need-returns-8
+returns-8 c = search kinds
+
+returns-9 : tie.Need-returns-9
+returns-9 c = search kinds
+
+pub line-plan-spec : {M : Type 1} → statement M
+line-plan-spec =
+    tie.close
+    (tie.spec
+    enum-known-l
+    date-plan-requires
+    enum-known-l-2
+    listing-plan-requires
+    enum-known-l-3
+    enum-known-l-4
+    enum-known-l-5
+    enum-known-l-6
+    trade-at-requires
+    enum-known-l-7
+    cancel-at-requires
+    enum-known-l-8
+    cancel-at-requires-2
+    enum-known-l-9
+    correction-at-requires
+    returns
+    returns-2
+    returns-3
+    returns-4
+    returns-5
+    returns-6
+    returns-7
+    returns-8
+    returns-9)

@@ -1,0 +1,405 @@
+// What a line asks for: the refusal of 1 to 12 that stops it, by number, or what it prints and stores. Securities and names
+// stand in lent tables; a line is any bytes of any length.
+use call_table::Names;
+use call_table::Table;
+use rules::Correction;
+use rules::Line;
+use rules::Listing;
+use rules::Mode;
+use rules::NAME_WIDTH;
+use rules::PLACES;
+use rules::Refusal;
+use rules::Security;
+use rules::Settings;
+use rules::Side;
+use rules::Trade;
+use rules::WIDTH;
+ghost use mathlib.Core.Path.{_≡_};
+ghost use Prim.Native.Nat.{_-_, _≤_, _<_};
+ghost use mathlib.Core.Bool.{_&&_, not};
+ghost use lib.Dec.{eqb};
+ghost use lib.ListN.{length};
+ghost use Rattle.rules.specs.Sizes.{width, nameWidth, securityPlaces};
+ghost use Rattle.rules.specs.Line.{isShaped, isKind};
+ghost use Rattle.rules.specs.Names.{sameName};
+ghost use Rattle.rules.specs.Conditions.{onNetwork};
+ghost use Rattle.rules.specs.Day.{isEntered, takenName, entered};
+ghost use Rattle.call_table.specs.Rows.{row, nameOf, rowsFrom, namesFrom};
+ghost use Rattle.call_plan.specs.Plan.{datePlan, listingPlan, printPlan, tradePlan, cancelOf, cancelPlan, correctionOf, correctionPlan, linePlan, readPlan, planOf, SoundListing, SoundTrade, SoundCorrection, SoundLine};
+
+// What an accepted trade prints, and the security after it.
+pub struct TradePlan {
+    pub place: usize,
+    pub side: Side,
+    pub network: u64,
+    pub unit: u64,
+    pub temporary: bool,
+    pub prints: bool,
+    pub full: bool,
+    pub shows: bool,
+    pub after: Security,
+}
+
+// What an accepted cancel or error prints.
+pub struct CancelPlan {
+    pub error: bool,
+    pub place: usize,
+    pub side: Side,
+    pub network: u64,
+    pub unit: u64,
+    pub full: bool,
+    pub shows: bool,
+}
+
+// What an accepted correction prints, and the security after it.
+pub struct CorrectionPlan {
+    pub place: usize,
+    pub original: Side,
+    pub correcting: Side,
+    pub network: u64,
+    pub unit: u64,
+    pub prints: bool,
+    pub full: bool,
+    pub shows: bool,
+    pub after: Security,
+}
+
+// What a line asks for, or the refusal that stops it.
+pub enum Plan {
+    Stop(Refusal),
+    Open(u64),
+    Enter(usize, Security),
+    Change(Mode),
+    Level(u64),
+    Step(u64),
+    Print(TradePlan),
+    Cancel(CancelPlan),
+    Correct(CorrectionPlan),
+}
+
+// ---- the plan
+
+pub fn is_shaped(line: &[u8]) -> bool
+    ensures { λ r. ⌜ r ≡ isShaped (now (line .entry)) ⌝ }
+{
+    if line.len() != WIDTH {
+        return false;
+    }
+    line_fields::is_printable_text(line)
+}
+
+// The nine kinds.
+fn is_kind(c: u8) -> bool
+    ensures { λ r. ⌜ r ≡ isKind c ⌝ }
+{
+    match c {
+        b'D' => true,
+        b'S' => true,
+        b'M' => true,
+        b'V' => true,
+        b'P' => true,
+        b'T' => true,
+        b'X' => true,
+        b'E' => true,
+        b'C' => true,
+        _ => false,
+    }
+}
+
+// Not a D, and no D accepted yet.
+fn is_undated(st: Settings, kind: u8) -> bool
+    ensures { λ r. ⌜ r ≡ (not (eqb kind 68) && eqb (st .date) 0) ⌝ }
+{
+    if kind == b'D' {
+        return false;
+    }
+    st.date == 0
+}
+
+fn date_plan(st: Settings, n: u64) -> Plan
+    ensures { λ r. ⌜ r ≡ datePlan st n ⌝ }
+{
+    if n <= st.date {
+        return Plan::Stop(Refusal::DateOrder);
+    }
+    Plan::Open(n)
+}
+
+// The name at place i is that of an entered security, and the same as the given one.
+fn is_taken_at(table: &Table, names: &Names, i: usize, name: &[u8]) -> bool
+    requires { ⌜ (i < securityPlaces) × (length (now name) ≡ nameWidth) ⌝ }
+    ensures { λ r. ⌜ r ≡ (isEntered (row (now (table .entry)) i) && sameName (now (name .entry)) (nameOf (now (names .entry)) i)) ⌝ }
+{
+    let s = call_table::load(table, i);
+    if !decide_letters::is_entered(s) {
+        return false;
+    }
+    let all = &names[..];
+    let from = i * NAME_WIDTH;
+    let to = from + NAME_WIDTH;
+    name_text::same_name(name, &all[from..to])
+}
+
+fn is_name_taken(table: &Table, names: &Names, name: &[u8]) -> bool
+    requires { ⌜ length (now name) ≡ nameWidth ⌝ }
+    ensures { λ r. ⌜ r ≡ takenName (now (name .entry)) (rowsFrom securityPlaces 0 (now (table .entry))) (namesFrom securityPlaces 0 (now (names .entry))) ⌝ }
+{
+    let mut i = 0;
+    while i < PLACES {
+        if is_taken_at(table, names, i, name) {
+            return true;
+        }
+        i += 1;
+    }
+    false
+}
+
+fn entered_as(l: Listing) -> Security
+    ensures { λ r. ⌜ r ≡ entered l ⌝ }
+{
+    Security {
+        unit: l.unit,
+        network: l.network,
+        market: l.market,
+        first: l.first,
+        printed: 0,
+        high: 0,
+        low: 0,
+        last: 0,
+        trades: 0,
+        qualified: 0,
+        primaries: 0,
+    }
+}
+
+fn listing_plan(table: &Table, names: &Names, name: &[u8], l: Listing) -> Plan
+    requires { ⌜ SoundListing l × (length (now name) ≡ nameWidth) ⌝ }
+    ensures { λ r. ⌜ r ≡ listingPlan (now (table .entry)) (now (names .entry)) (now (name .entry)) l ⌝ }
+{
+    let place = (l.number - 1) as usize;
+    let s = call_table::load(table, place);
+    if decide_letters::is_entered(s) {
+        return Plan::Stop(Refusal::InUse);
+    }
+    if !l.lawful {
+        return Plan::Stop(Refusal::Name);
+    }
+    if is_name_taken(table, names, name) {
+        return Plan::Stop(Refusal::SameName);
+    }
+    Plan::Enter(place, entered_as(l))
+}
+
+pub fn print_plan(st: Settings, s: Security, t: Trade) -> TradePlan
+    requires { ⌜ SoundTrade t ⌝ }
+    ensures { λ r. ⌜ r ≡ printPlan st s t ⌝ }
+{
+    let x = t.side;
+    let letters = x.letters;
+    let price = x.price;
+    let value = print_price::in_units(price);
+    let whole = print_price::whole_part(price);
+    let ranges = decide_letters::for_range(letters);
+    let lasts = decide_letters::for_last(letters);
+    let rule = decide_letters::has_rule(letters);
+    let prints = decide_trade::prints_by(st, s, t.market, x.volume, value, ranges, lasts, rule);
+    TradePlan {
+        place: (t.security - 1) as usize,
+        side: x,
+        network: s.network,
+        unit: s.unit,
+        temporary: decide_letters::shows_temporary(s),
+        prints: prints,
+        full: decide_trade::full_by(st, s, t.market, whole),
+        shows: decide_trade::shows_by(st, s, t.market, x.volume, lasts, rule),
+        after: decide_trade::after_by(s, t.market, value, prints, ranges, lasts),
+    }
+}
+
+pub fn is_lawful(s: Security, t: Trade) -> bool
+    ensures { λ r. ⌜ r ≡ (t .lawful && onNetwork (s .network) (t .side .letters)) ⌝ }
+{
+    let x = t.side;
+    let letters = x.letters;
+    if !t.lawful {
+        return false;
+    }
+    decide_letters::on_network(s.network, letters)
+}
+
+fn trade_plan(st: Settings, s: Security, t: Trade) -> Plan
+    requires { ⌜ SoundTrade t ⌝ }
+    ensures { λ r. ⌜ r ≡ tradePlan st s t ⌝ }
+{
+    if !decide_letters::is_entered(s) {
+        return Plan::Stop(Refusal::NotEntered);
+    }
+    if !is_lawful(s, t) {
+        return Plan::Stop(Refusal::Conditions);
+    }
+    if !t.matched {
+        return Plan::Stop(Refusal::Unmatched);
+    }
+    Plan::Print(print_plan(st, s, t))
+}
+
+fn trade_at(st: Settings, table: &Table, t: Trade) -> Plan
+    requires { ⌜ SoundTrade t ⌝ }
+    ensures { λ r. ⌜ r ≡ tradePlan st (row (now (table .entry)) (t .security - 1)) t ⌝ }
+{
+    let place = (t.security - 1) as usize;
+    let s = call_table::load(table, place);
+    trade_plan(st, s, t)
+}
+
+fn cancel_of(error: bool, st: Settings, s: Security, t: Trade) -> CancelPlan
+    requires { ⌜ SoundTrade t ⌝ }
+    ensures { λ r. ⌜ r ≡ cancelOf error st s t ⌝ }
+{
+    let x = t.side;
+    CancelPlan {
+        error: error,
+        place: (t.security - 1) as usize,
+        side: x,
+        network: s.network,
+        unit: s.unit,
+        full: decide_correction::cancel_full(st, s, x),
+        shows: decide_correction::cancel_shows(st, x),
+    }
+}
+
+fn cancel_plan(error: bool, st: Settings, s: Security, t: Trade) -> Plan
+    requires { ⌜ SoundTrade t ⌝ }
+    ensures { λ r. ⌜ r ≡ cancelPlan error st s t ⌝ }
+{
+    if !decide_letters::is_entered(s) {
+        return Plan::Stop(Refusal::NotEntered);
+    }
+    if !is_lawful(s, t) {
+        return Plan::Stop(Refusal::Conditions);
+    }
+    if !t.matched {
+        return Plan::Stop(Refusal::Unmatched);
+    }
+    Plan::Cancel(cancel_of(error, st, s, t))
+}
+
+fn cancel_at(error: bool, st: Settings, table: &Table, t: Trade) -> Plan
+    requires { ⌜ SoundTrade t ⌝ }
+    ensures { λ r. ⌜ r ≡ cancelPlan error st (row (now (table .entry)) (t .security - 1)) t ⌝ }
+{
+    let place = (t.security - 1) as usize;
+    let s = call_table::load(table, place);
+    cancel_plan(error, st, s, t)
+}
+
+fn correction_of(st: Settings, s: Security, c: Correction) -> CorrectionPlan
+    requires { ⌜ SoundCorrection c ⌝ }
+    ensures { λ r. ⌜ r ≡ correctionOf st s c ⌝ }
+{
+    let x = c.original;
+    let y = c.correcting;
+    CorrectionPlan {
+        place: (c.security - 1) as usize,
+        original: x,
+        correcting: y,
+        network: s.network,
+        unit: s.unit,
+        prints: decide_correction::prints_correction(st, s, x, y),
+        full: decide_correction::correction_full(st, s, x, y),
+        shows: decide_correction::correction_shows(st, x, y),
+        after: decide_correction::after_correction(s, y),
+    }
+}
+
+// Letters lawful by themselves, and on the security's network, on both sides.
+fn are_lawful(s: Security, c: Correction) -> bool
+    ensures { λ r. ⌜ r ≡ (c .lawful && (onNetwork (s .network) (c .original .letters) && onNetwork (s .network) (c .correcting .letters))) ⌝ }
+{
+    let x = c.original;
+    let y = c.correcting;
+    let letters = x.letters;
+    let others = y.letters;
+    if !c.lawful {
+        return false;
+    }
+    if !decide_letters::on_network(s.network, letters) {
+        return false;
+    }
+    decide_letters::on_network(s.network, others)
+}
+
+fn correction_plan(st: Settings, s: Security, c: Correction) -> Plan
+    requires { ⌜ SoundCorrection c ⌝ }
+    ensures { λ r. ⌜ r ≡ correctionPlan st s c ⌝ }
+{
+    if !decide_letters::is_entered(s) {
+        return Plan::Stop(Refusal::NotEntered);
+    }
+    if !are_lawful(s, c) {
+        return Plan::Stop(Refusal::Conditions);
+    }
+    if !c.matched {
+        return Plan::Stop(Refusal::Unmatched);
+    }
+    Plan::Correct(correction_of(st, s, c))
+}
+
+fn correction_at(st: Settings, table: &Table, c: Correction) -> Plan
+    requires { ⌜ SoundCorrection c ⌝ }
+    ensures { λ r. ⌜ r ≡ correctionPlan st (row (now (table .entry)) (c .security - 1)) c ⌝ }
+{
+    let place = (c.security - 1) as usize;
+    let s = call_table::load(table, place);
+    correction_plan(st, s, c)
+}
+
+fn line_plan(st: Settings, table: &Table, names: &Names, name: &[u8], l: Line) -> Plan
+    requires { ⌜ SoundLine l × (length (now name) ≡ nameWidth) ⌝ }
+    ensures { λ r. ⌜ r ≡ linePlan st (now (table .entry)) (now (names .entry)) (now (name .entry)) l ⌝ }
+{
+    match l {
+        Line::Dated(n) => date_plan(st, n),
+        Line::Listed(x) => listing_plan(table, names, name, x),
+        Line::Moded(m) => Plan::Change(m),
+        Line::Leveled(n) => Plan::Level(n),
+        Line::Stepped(n) => Plan::Step(n),
+        Line::Traded(t) => trade_at(st, table, t),
+        Line::Cancelled(t) => cancel_at(false, st, table, t),
+        Line::Erred(t) => cancel_at(true, st, table, t),
+        Line::Corrected(c) => correction_at(st, table, c),
+    }
+}
+
+// A line of a known kind, by its fields: refusals 4 and 5, then its own.
+fn read_plan(st: Settings, table: &Table, names: &Names, line: &[u8]) -> Plan
+    requires { ⌜ length (now line) ≡ width ⌝ }
+    ensures { λ r. ⌜ r ≡ readPlan st (now (table .entry)) (now (names .entry)) (now (line .entry)) ⌝ }
+{
+    let parsed = line_kinds::read_kind(line);
+    if !parsed.formed {
+        return Plan::Stop(Refusal::Form);
+    }
+    if !parsed.ranged {
+        return Plan::Stop(Refusal::Value);
+    }
+    let l = parsed.line;
+    line_plan(st, table, names, &line[5..24], l)
+}
+
+// What a line asks for.
+pub fn plan_line(st: Settings, table: &Table, names: &Names, line: &[u8]) -> Plan
+    ensures { λ r. ⌜ r ≡ planOf st (now (table .entry)) (now (names .entry)) (now (line .entry)) ⌝ }
+{
+    if !is_shaped(line) {
+        return Plan::Stop(Refusal::Shape);
+    }
+    let kind = line[0];
+    if !is_kind(kind) {
+        return Plan::Stop(Refusal::Kind);
+    }
+    if is_undated(st, kind) {
+        return Plan::Stop(Refusal::NoDate);
+    }
+    read_plan(st, table, names, line)
+}

@@ -1,0 +1,130 @@
+-- No print of a sound plan is longer than `longestPrint` bytes. Assumes nothing.
+use Prim.Native.Nat.{ℕ, _*_, _/_, _^_, _≤_, _<_}
+use native.Mathlib.Nat.{div-le-self}
+use native.Mathlib.Omega.{arith}
+use mathlib.Core.Path.{_≡_, refl, sym}
+use mathlib.Core.Bool.{Bool, not}
+use mathlib.Core.List.{List, []}
+use lib.ListN.{length, length-append}
+use mir.Val.{Val}
+use denote.Laws.{Is}
+use denote.Enum.Declared.{row}
+use Rattle.text.specs.Bytes.{bytes}
+use Rattle.text.specs.Pick.{pick, opt}
+use Rattle.text.specs.Decimal.{decimal}
+use Rattle.text.proofs.Decimal.{length-decimal, length-places}
+use Rattle.text.proofs.Parts.{opt-most, pick-most}
+use Rattle.rules.specs.Volume.{group, fullVolume}
+use Rattle.rules.specs.Price.{wholeText}
+use Rattle.rules.specs.Side.{sideText}
+use Rattle.rules.specs.Correction.{repeatsName, endPair, cancelText, correctionText, cancelOpening, errorOpening}
+use Rattle.rules.specs.Announcement.{minimumDollars, minimumText, modeText, levelText, stepText}
+use Rattle.rules.specs.declared.Mode.{Mode}
+use Rattle.rules.specs.declared.Mode.the-variants.{Normal, Dvd, Rpo, Mpv}
+use Rattle.rules.specs.declared.Side.{Side}
+use Rattle.rules.specs.declared.Settings.{Settings}
+use Rattle.rules.specs.Sizes.{longestPrint}
+use Rattle.print_side.proofs.Short.{Short, side-short}
+use Rattle.print_amendment.proofs.Amended.{opening-length}
+use Rattle.call_plan.proofs.Plan.{the-type}
+use Rattle.call_plan.specs.declared.TradePlan.{TradePlan}
+use Rattle.call_plan.specs.declared.CancelPlan.{CancelPlan}
+use Rattle.call_plan.specs.declared.CorrectionPlan.{CorrectionPlan}
+use Rattle.call_plan.specs.declared.Plan.{Plan}
+use Rattle.call_plan.specs.declared.Plan.the-variants.{Stop, Open, Enter, Change, Level, Step, Print, Cancel, Correct}
+use Rattle.call_print.specs.Print.{printText, cancelled, corrected, textOf, fittedOf, SoundPrint, SoundCancel, SoundCorrect, SoundPlan}
+use Rattle.call_print.proofs.Room.{told-fits}
+
+-- ---- trades, cancels, corrections
+
+pair-most : (x : Side) → length (endPair x) ≤ 2
+unfolding endPair
+pair-most x = opt-most (not (x .letters .g)) (bytes ">>") 2 (omega arith)
+
+module _ (x : Side) (h : Short x) (name : List ℕ) (l : length name ≤ 22) (network unit : ℕ) (full shows : Bool) where
+  side-most : length (sideText name network unit full shows x) ≤ 183
+  side-most = omega (arith, side-short x h name network unit full shows)
+
+  pub trade-most : (b : Bool) → length (opt b (sideText name network unit full shows x)) ≤ longestPrint
+  trade-most b = opt-most b _ longestPrint (omega (arith, side-most))
+
+  pub cancel-most : (opening : List ℕ) → length opening ≡ 6 → length (cancelText opening name network unit full shows x) ≤ longestPrint
+  unfolding cancelText
+  cancel-most opening six = simp length-append (omega (arith, six, side-most, pair-most x))
+
+module _ (x y : Side) (h : Short x) (k : Short y) (name : List ℕ) (l : length name ≤ 22) (network unit : ℕ) (full shows : Bool) where
+  both-most : length (correctionText name network unit full shows x y) ≤ longestPrint
+  unfolding correctionText
+  both-most =
+      simp length-append
+      (omega (arith, side-most x h name l network unit full shows, side-most y k (opt (repeatsName (y .letters)) name) (opt-most (repeatsName (y .letters)) name 22 l) network unit full shows, pair-most y))
+
+  pub correction-most : (b : Bool) → length (opt b (correctionText name network unit full shows x y)) ≤ longestPrint
+  correction-most b = opt-most b _ longestPrint both-most
+
+-- ---- announcements of numbers of at most twenty digits
+
+digits-most : (n k : ℕ) → n < 10 ^ 20 → length (decimal (n / k)) ≤ 20
+digits-most n k h = length-decimal 19 (n / k) (omega (arith, div-le-self n k))
+
+group-length : (n : ℕ) → length (group n) ≡ 4
+unfolding group
+group-length n = rw (length-append, length-places 3 n)
+
+volume-most : (n : ℕ) → n < 10 ^ 20 → length (fullVolume n) ≤ 28
+unfolding fullVolume
+volume-most n h =
+    pick-most _ _ _ 28 (omega (arith, length-decimal 19 n h))
+    (pick-most _ _ _ 28 (simp length-append (omega (arith, digits-most n 1000 h, group-length n)))
+    (simp length-append (omega (arith, digits-most n 1000000 h, group-length (n / 1000), group-length n))))
+
+pub level-most : (n : ℕ) → n < 10 ^ 20 → length (levelText n) ≤ longestPrint
+unfolding levelText
+level-most n h = simp length-append (omega (arith, volume-most n h))
+
+whole-most : (n : ℕ) → n < 10 ^ 20 → length (wholeText n) ≤ 20
+unfolding wholeText
+whole-most n h = pick-most _ [] _ 20 (omega arith) (length-decimal 19 n h)
+
+minimum-most : (n : ℕ) → n < 10 ^ 20 → length (minimumText n) ≤ longestPrint
+unfolding minimumText minimumDollars
+minimum-most n h = simp length-append (omega (arith, whole-most (5 * n / 100) (omega arith), length-places 2 (5 * n)))
+
+pub mode-most : (m : Mode) (n : ℕ) → n < 10 ^ 20 → length (modeText m n) ≤ longestPrint
+unfolding modeText
+mode-most Normal n h = omega arith
+mode-most Dvd n h = omega arith
+mode-most Rpo n h = omega arith
+mode-most Mpv n h = minimum-most n h
+
+pub step-most : (m : Mode) (n : ℕ) → n < 10 ^ 20 → length (stepText m n) ≤ longestPrint
+unfolding stepText
+step-most Normal n h = omega arith
+step-most Dvd n h = omega arith
+step-most Rpo n h = omega arith
+step-most Mpv n h = minimum-most n h
+
+-- ---- a sound plan whose numbers the machine holds
+
+module _ (st : Settings) (name line : List ℕ) (vs : List Val) (set : st .minimum < 10 ^ 20) (l : length name ≤ 22) where
+  text-most : (p : Plan) → Is (row the-type) p vs → SoundPlan line p → length (textOf st name p) ≤ longestPrint
+  unfolding textOf SoundPlan printText cancelled corrected
+  text-most (Stop r) g h = omega arith
+  text-most (Open n) g h = omega arith
+  text-most (Enter i s) g h = omega arith
+  text-most (Change m) g h = mode-most m (st .minimum) set
+  text-most (Level n) g h = level-most n (omega (arith, g .1))
+  text-most (Step n) g h = step-most (st .mode) n (omega (arith, g .1))
+  text-most (Print t) g h =
+      let x : Short (t .side) = record { volume-is = omega (arith, g .1); price-is = omega (arith, g .1); decimals-are = h .stands .sound .decimals; days-are = omega (arith, g .1); previous-is = omega (arith, g .1); previous-decimals = h .stands .previous-is } in
+      trade-most (t .side) x name l _ _ _ _ (t .prints)
+  text-most (Cancel t) g h =
+      let x : Short (t .side) = record { volume-is = omega (arith, g .1); price-is = omega (arith, g .1); decimals-are = h .stands .sound .decimals; days-are = omega (arith, g .1); previous-is = omega (arith, g .1); previous-decimals = h .stands .previous-is } in
+      cancel-most (t .side) x name l _ _ _ _ _ (sym (opening-length (t .error)))
+  text-most (Correct c) g h =
+      let x : Short (c .original) = record { volume-is = omega (arith, g .1); price-is = omega (arith, g .1); decimals-are = h .original-stands .sound .decimals; days-are = omega (arith, g .1); previous-is = omega (arith, g .1); previous-decimals = h .original-stands .previous-is } in
+      let y : Short (c .correcting) = record { volume-is = omega (arith, g .1); price-is = omega (arith, g .1); decimals-are = h .correcting-stands .sound .decimals; days-are = omega (arith, g .1); previous-is = omega (arith, g .1); previous-decimals = h .correcting-stands .previous-is } in
+      correction-most (c .original) (c .correcting) x y name l _ _ _ _ (c .prints)
+
+  pub any-fits : (p : Plan) (room : ℕ) → Is (row the-type) p vs → SoundPlan line p → longestPrint ≤ room → p ≡ fittedOf st name p room
+  any-fits p room g h r = told-fits st name p room (length (textOf st name p)) refl (omega (arith, text-most p g h))

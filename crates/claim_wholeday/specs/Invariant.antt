@@ -1,0 +1,32 @@
+-- What holds of every day that a list of calls leads to from a fresh one. Assumes nothing.
+use Prim.Native.Nat.{ℕ, _<_}
+use mathlib.Core.Path.{_≡_}
+use mathlib.Core.Bool.{true, false}
+use mathlib.Core.List.{List}
+use lib.ListN.{length, getD}
+use Rattle.rules.specs.Sizes.{securityPlaces}
+use Rattle.rules.specs.Names.{sameName}
+use Rattle.rules.specs.Day.{Day, vacant, noName, isEntered}
+use Rattle.rules.specs.declared.Security.{Security}
+use Rattle.name_back.specs.Plain.{NamePlain}
+
+-- the security and the name at a place, from 0
+abbrev pub atPlace : Day → ℕ → Security
+atPlace day i = getD (day .securities) i vacant
+
+abbrev pub named : Day → ℕ → List ℕ
+named day i = getD (day .names) i noName
+
+-- 512 places, each with a lawful name or none, and no name twice
+pub record Invariant (day : Day) : Type 0 where
+  pub places : length (day .securities) ≡ securityPlaces
+  pub lines : length (day .names) ≡ securityPlaces
+  pub no-name : (i : ℕ) → i < securityPlaces → isEntered (atPlace day i) ≡ false → named day i ≡ noName
+  pub plain-name : (i : ℕ) → i < securityPlaces → isEntered (atPlace day i) ≡ true → NamePlain (atPlace day i .network) (named day i)
+  pub distinct : (i j : ℕ) → i < securityPlaces → j < securityPlaces → (i ≡ j → ⊥) → isEntered (atPlace day i) ≡ true → isEntered (atPlace day j) ≡ true → sameName (named day i) (named day j) ≡ false
+
+-- the second day has every security of the first, under the same name and network
+pub record Later (day e : Day) : Type 0 where
+  pub stays : (i : ℕ) → i < securityPlaces → isEntered (atPlace day i) ≡ true → isEntered (atPlace e i) ≡ true
+  pub same-network : (i : ℕ) → i < securityPlaces → isEntered (atPlace day i) ≡ true → atPlace e i .network ≡ atPlace day i .network
+  pub same-name : (i : ℕ) → i < securityPlaces → isEntered (atPlace day i) ≡ true → named e i ≡ named day i

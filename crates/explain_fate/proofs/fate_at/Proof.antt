@@ -1,0 +1,101 @@
+use Rattle.explain_fate.proofs.Fates.{kinds, sounds}
+use borrow.Author.Needs.{needs}
+use Rattle.explain_fate.proofs.fate_at.Statement.{statement}
+use Rattle.explain_fate.proofs.fate_at.Tie as tie
+
+enum-told : tie.Need-enum-told
+enum-told c = search needs
+
+enum-told-2 : tie.Need-enum-told-2
+enum-told-2 c = search needs
+
+enum-told-3 : tie.Need-enum-told-3
+enum-told-3 c = search needs
+
+enum-told-4 : tie.Need-enum-told-4
+enum-told-4 c = search needs
+
+enum-told-5 : tie.Need-enum-told-5
+enum-told-5 c = search needs
+
+step-fate-requires : tie.Need-step-fate-requires
+step-fate-requires c κs = search needs
+
+enum-known-l : tie.Need-enum-known-l
+enum-known-l c = search needs
+
+trade-fate-requires : tie.Need-trade-fate-requires
+trade-fate-requires c κs = search sounds
+
+enum-known-l-2 : tie.Need-enum-known-l-2
+enum-known-l-2 c = search needs
+
+cancel-fate-requires : tie.Need-cancel-fate-requires
+cancel-fate-requires c κs = search sounds
+
+enum-known-l-3 : tie.Need-enum-known-l-3
+enum-known-l-3 c = search needs
+
+cancel-fate-requires-2 : tie.Need-cancel-fate-requires-2
+cancel-fate-requires-2 c κs = search sounds
+
+enum-known-l-4 : tie.Need-enum-known-l-4
+enum-known-l-4 c = search needs
+
+correction-fate-requires : tie.Need-correction-fate-requires
+correction-fate-requires c κs = search sounds
+
+returns : tie.Need-returns
+returns c = search kinds
+
+returns-2 : tie.Need-returns-2
+returns-2 c = search kinds
+
+returns-3 : tie.Need-returns-3
+returns-3 c = search kinds
+
+returns-4 : tie.Need-returns-4
+returns-4 c = search kinds
+
+returns-5 : tie.Need-returns-5
+returns-5 c = search kinds
+
+returns-6 : tie.Need-returns-6
+returns-6 c = search kinds
+
+returns-7 : tie.Need-returns-7
+returns-7 c = search kinds
+
+returns-8 : tie.Need-returns-8
+returns-8 c = search kinds
+
+returns-9 : tie.Need-returns-9
+returns-9 c = search kinds
+
+pub fate-at-spec : {M : Type 1} → statement M
+fate-at-spec =
+    tie.close
+    (tie.spec
+    enum-told
+    enum-told-2
+    enum-told-3
+    enum-told-4
+    enum-told-5
+    step-fate-requires
+    enum-known-l
+    trade-fate-requires
+    enum-known-l-2
+    cancel-fate-requires
+    enum-known-l-3
+    cancel-fate-requires-2
+    enum-known-l-4
+    correction-fate-requires
+    returns
+    returns-2
+    returns-3
+    returns-4
+    returns-5
+    returns-6
+    returns-7
+    returns-8
+    returns-9)

@@ -1,0 +1,23 @@
+use Rattle.explain_fate.proofs.Fates.{readings}
+use borrow.Author.Needs.{needs}
+use Rattle.explain_fate.proofs.read_security.Statement.{statement}
+use Rattle.explain_fate.proofs.read_security.Tie as tie
+
+enum-told : tie.Need-enum-told
+enum-told c = search needs
+
+enum-known-reading : tie.Need-enum-known-reading
+enum-known-reading c = search needs
+
+security-of-requires : tie.Need-security-of-requires
+security-of-requires c κs = search needs
+
+returns : tie.Need-returns
+returns c = search readings
+
+returns-2 : tie.Need-returns-2
+returns-2 c = search readings
+
+pub read-security-spec : {M : Type 1} → statement M
+read-security-spec =
+    tie.close (tie.spec enum-told enum-known-reading security-of-requires returns returns-2)

@@ -1,0 +1,53 @@
+use Rattle.text.proofs.Writing.{rooms, then}
+use Rattle.explain_words.specs.Text.{ruleReasons}
+use borrow.Author.Needs.{needs}
+use Rattle.explain_words.proofs.write_rule_reasons.Statement.{statement}
+use Rattle.explain_words.proofs.write_rule_reasons.Tie as tie
+
+slice-aggregate-write-optional : tie.Need-slice-aggregate-write-optional
+slice-aggregate-write-optional c = search needs
+
+write-optional-requires : tie.Need-write-optional-requires
+unfolding ruleReasons
+write-optional-requires c κs = search rooms depth 24
+
+sub-write-optional : tie.Need-sub-write-optional
+sub-write-optional c = search needs
+
+part-write-optional-start : tie.Need-part-write-optional-start
+part-write-optional-start c = search needs
+
+part-write-optional-end : tie.Need-part-write-optional-end
+part-write-optional-end c = search needs
+
+slice-aggregate-write-optional-2 : tie.Need-slice-aggregate-write-optional-2
+slice-aggregate-write-optional-2 c = search needs
+
+write-optional-requires-2 : tie.Need-write-optional-requires-2
+unfolding ruleReasons
+write-optional-requires-2 c κs = search rooms depth 24
+
+add-result : tie.Need-add-result
+add-result c = search needs
+
+same-length : tie.Need-same-length
+same-length c = search needs
+
+returns : tie.Need-returns
+unfolding ruleReasons
+returns c = search then
+
+pub write-rule-reasons-spec : {M : Type 1} → statement M
+write-rule-reasons-spec =
+    tie.close
+    (tie.spec
+    slice-aggregate-write-optional
+    write-optional-requires
+    sub-write-optional
+    part-write-optional-start
+    part-write-optional-end
+    slice-aggregate-write-optional-2
+    write-optional-requires-2
+    add-result
+    same-length
+    returns)

@@ -1,0 +1,76 @@
+use Rattle.name_suffix.proofs.Lawful.{answers}
+use Rattle.text.specs.Pick.{member}
+use Rattle.rules.specs.Names.{isTemporary}
+use borrow.Author.Needs.{needs}
+use Rattle.name_suffix.proofs.is_temporary.Statement.{statement}
+use Rattle.name_suffix.proofs.is_temporary.Tie as tie
+
+slice-aggregate-same-text : tie.Need-slice-aggregate-same-text
+slice-aggregate-same-text c = search needs
+
+same-text-requires : tie.Need-same-text-requires
+same-text-requires c κs = search needs
+
+returns : tie.Need-returns
+unfolding isTemporary member
+returns c = search answers
+
+slice-aggregate-same-text-2 : tie.Need-slice-aggregate-same-text-2
+slice-aggregate-same-text-2 c = search needs
+
+same-text-requires-2 : tie.Need-same-text-requires-2
+same-text-requires-2 c κs = search needs
+
+returns-2 : tie.Need-returns-2
+unfolding isTemporary member
+returns-2 c = search answers
+
+slice-aggregate-same-text-3 : tie.Need-slice-aggregate-same-text-3
+slice-aggregate-same-text-3 c = search needs
+
+same-text-requires-3 : tie.Need-same-text-requires-3
+same-text-requires-3 c κs = search needs
+
+returns-3 : tie.Need-returns-3
+unfolding isTemporary member
+returns-3 c = search answers
+
+slice-aggregate-same-text-4 : tie.Need-slice-aggregate-same-text-4
+slice-aggregate-same-text-4 c = search needs
+
+same-text-requires-4 : tie.Need-same-text-requires-4
+same-text-requires-4 c κs = search needs
+
+returns-4 : tie.Need-returns-4
+unfolding isTemporary member
+returns-4 c = search answers
+
+slice-aggregate-same-text-5 : tie.Need-slice-aggregate-same-text-5
+slice-aggregate-same-text-5 c = search needs
+
+same-text-requires-5 : tie.Need-same-text-requires-5
+same-text-requires-5 c κs = search needs
+
+returns-5 : tie.Need-returns-5
+unfolding isTemporary member
+returns-5 c = search answers
+
+pub is-temporary-spec : {M : Type 1} → statement M
+is-temporary-spec =
+    tie.close
+    (tie.spec
+    slice-aggregate-same-text
+    same-text-requires
+    returns
+    slice-aggregate-same-text-2
+    same-text-requires-2
+    returns-2
+    slice-aggregate-same-text-3
+    same-text-requires-3
+    returns-3
+    slice-aggregate-same-text-4
+    same-text-requires-4
+    returns-4
+    slice-aggregate-same-text-5
+    same-text-requires-5
+    returns-5)

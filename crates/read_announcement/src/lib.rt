@@ -1,0 +1,141 @@
+// The announcement at a place of a tape (document 01, "Announcements", "Reader"): the texts that the engine writes, compared
+// with what stands there.
+ghost use mathlib.Core.Path.{_≡_};
+ghost use Prim.Native.Nat.{_+_, _*_, _≤_, _<_, _^_};
+ghost use lib.ListN.{length};
+ghost use Rattle.rules.specs.Announcement.{minimumText, levelText};
+ghost use Rattle.read_announcement.specs.Announced.{withDigit, digitsIn, lengthAt, minimumBy, minimumAt, levelBy, levelAt, announcedIn, announcedLength};
+
+// ---- the number that an announcement would tell
+
+// One byte more onto a number, where it is a digit.
+fn with_digit(n: u64, c: u8) -> u64
+    requires { ⌜ n < 10 ^ 7 ⌝ }
+    ensures { λ r. ⌜ (r ≡ withDigit n c) × (r ≤ 10 * n + 9) ⌝ }
+{
+    if c < 48 {
+        return n;
+    }
+    if 57 < c {
+        return n;
+    }
+    10 * n + (text::wide(c) - 48)
+}
+
+// The digits of at most seven bytes.
+fn digits_in(s: &[u8]) -> u64
+    requires { ⌜ length (now s) ≤ 7 ⌝ }
+    ensures { λ r. ⌜ r ≡ digitsIn 0 (now (s .entry)) ⌝ }
+{
+    let mut n: u64 = 0;
+    let mut i = 0;
+    while i < s.len() {
+        n = with_digit(n, s[i]);
+        i += 1;
+    }
+    n
+}
+
+// ---- a text with a number, 0 where it does not stand there
+
+fn minimum_text_at(minimum: u64, s: &[u8]) -> usize
+    ensures { λ r. ⌜ r ≡ lengthAt (minimumText minimum) (now (s .entry)) ⌝ }
+{
+    let mut buffer = [0u8; 64];
+    let n = print_announcement::minimum_length(minimum);
+    print_announcement::write_minimum(&mut buffer, minimum);
+    if name_words::begins(&buffer[..n], s) {
+        return n;
+    }
+    0
+}
+
+fn minimum_by(minimum: u64, s: &[u8]) -> usize
+    ensures { λ r. ⌜ r ≡ minimumBy minimum (now (s .entry)) ⌝ }
+{
+    if minimum < 1 {
+        return 0;
+    }
+    if 100 < minimum {
+        return 0;
+    }
+    minimum_text_at(minimum, s)
+}
+
+fn minimum_at(s: &[u8]) -> usize
+    ensures { λ r. ⌜ r ≡ minimumAt (now (s .entry)) ⌝ }
+{
+    if s.len() < 33 {
+        return 0;
+    }
+    let cents = digits_in(&s[29..33]);
+    minimum_by(cents / 5, s)
+}
+
+fn level_text_at(level: u64, s: &[u8]) -> usize
+    ensures { λ r. ⌜ r ≡ lengthAt (levelText level) (now (s .entry)) ⌝ }
+{
+    let mut buffer = [0u8; 64];
+    let n = print_announcement::level_length(level);
+    print_announcement::write_level(&mut buffer, level);
+    if name_words::begins(&buffer[..n], s) {
+        return n;
+    }
+    0
+}
+
+fn level_by(level: u64, s: &[u8]) -> usize
+    ensures { λ r. ⌜ r ≡ levelBy level (now (s .entry)) ⌝ }
+{
+    if level < 5000 {
+        return 0;
+    }
+    if 100000 < level {
+        return 0;
+    }
+    level_text_at(level, s)
+}
+
+fn level_at(s: &[u8]) -> usize
+    ensures { λ r. ⌜ r ≡ levelAt (now (s .entry)) ⌝ }
+{
+    if s.len() < 36 {
+        return 0;
+    }
+    let shares = digits_in(&s[29..36]);
+    level_by(shares, s)
+}
+
+// ---- the announcement
+
+fn announced_in(s: &[u8]) -> usize
+    ensures { λ r. ⌜ r ≡ announcedIn (now (s .entry)) ⌝ }
+{
+    let normal = print_announcement::NORMAL;
+    let dvd = print_announcement::DVD;
+    let rpo = print_announcement::RPO;
+    let minimum = print_announcement::MINIMUM;
+    if name_words::begins(&normal, s) {
+        return 23;
+    }
+    if name_words::begins(&dvd, s) {
+        return 40;
+    }
+    if name_words::begins(&rpo, s) {
+        return 38;
+    }
+    if name_words::begins(&minimum, s) {
+        return minimum_at(s);
+    }
+    level_at(s)
+}
+
+// The length of the announcement at the front, 0 where none stands.
+pub fn announcement_at(s: &[u8]) -> usize
+    ensures { λ r. ⌜ r ≡ announcedLength (now (s .entry)) ⌝ }
+{
+    if name_words::begins(b"<<<", s) {
+        return announced_in(s);
+    }
+    0
+}
