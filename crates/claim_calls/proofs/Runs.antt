@@ -19,12 +19,12 @@ use Rattle.call_plan.specs.declared.Plan.the-variants.{Stop, Open, Enter, Chang
 use Rattle.call_plan.specs.Plan.{planOf}
 use Rattle.engine.specs.declared.Answer.{Answer}
 use Rattle.call_print.specs.Print.{printedName, textOf, printOf, SoundPlan}
-use Rattle.engine.specs.Taken.{asked, outcomeOf, Taken}
+use Rattle.engine.specs.Taken.{asked, outcomeOf, Taken, countOf}
 use Rattle.call_state.specs.After.{settingsAfter, tableAfter, namesAfter}
 use Rattle.call_print.proofs.Sound.{sound-asked}
 use Rattle.call_print.proofs.Room.{fitted-sound}
 use Rattle.claim_calls.specs.Held.{stopOf, dayAfter, ByRules}
-use Rattle.claim_calls.specs.Run.{State, Sized, Lent, countOf, Run, callOf, tapeFrom, dayFrom, Holds}
+use Rattle.claim_calls.specs.Run.{State, Sized, Lent, Run, callOf, tapeFrom, dayFrom, Holds}
 use Rattle.claim_calls.specs.Run.Run.{done, call}
 use Rattle.claim_calls.specs.Run.Holds.{held, undated}
 use Rattle.claim_calls.proofs.Agree.{by-rules}
@@ -68,19 +68,6 @@ asked-sound st table names line room =
 
 -- ---- one link
 
--- the answer's count is the print's length
-pub count-is : (st : Settings) (names : List ℕ) (p : Plan) → countOf (outcomeOf p (length (printOf st names p))) ≡ length (printOf st names p)
-unfolding countOf outcomeOf printOf textOf printedName
-count-is st names (Stop r) = refl
-count-is st names (Open n) = refl
-count-is st names (Enter i s) = refl
-count-is st names (Change m) = refl
-count-is st names (Level n) = refl
-count-is st names (Step n) = refl
-count-is st names (Print t) = refl
-count-is st names (Cancel t) = refl
-count-is st names (Correct c) = refl
-
 module _ (s m : State) (c : Lent) (b : List ℕ) (r : Answer) (t : Taken (s .settings) (s .table) (s .names) (c .line) (c .tape) (m .table) (m .names) b r) (kept : r .settings ≡ m .settings) where
   abbrev p : Plan
   p = asked (s .settings) (s .table) (s .names) (c .line) (length (c .tape))
@@ -89,7 +76,7 @@ module _ (s m : State) (c : Lent) (b : List ℕ) (r : Answer) (t : Taken (s .set
   unfolding put
   link-tape =
       let text = printOf (s .settings) (s .names) p in
-      let n : countOf (r .outcome) ≡ length text = ap countOf (t .outcome) ∙ count-is (s .settings) (s .names) p in
+      let n : countOf (r .outcome) ≡ length text = t .count-is in
       ap (λ (k : ℕ). take k b) n ∙ (ap (take (length text)) (t .tape-is) ∙ take-at text (drop (length text) (c .tape)) (length text) refl)
 
   pub link-sized : Sized s → Sized m

@@ -10,7 +10,7 @@ use Rattle.call_table.specs.Rows.{dayOf}
 use Rattle.engine.specs.declared.Outcome.{Outcome}
 use Rattle.engine.specs.declared.Outcome.the-variants.{Accepted, Refused}
 use Rattle.engine.specs.declared.Answer.{Answer}
-use Rattle.engine.specs.Taken.{Taken}
+use Rattle.engine.specs.Taken.{Taken, countOf}
 
 -- what a call finds and leaves: settings by value, two lent tables
 pub record State : Type 0 where
@@ -27,11 +27,6 @@ pub record Sized (s : State) : Type 0 where
 pub record Lent : Type 0 where
   pub line : List ℕ
   pub tape : List ℕ
-
--- how many bytes an answer says were written
-unfoldable pub countOf : Outcome → ℕ
-countOf (Accepted n) = n
-countOf (Refused r) = 0
 
 -- from the first state the calls lead to the second, and their prints, joined, are the tape. A link is what `take_line` ensures
 pub data Run : State → List Lent → State → List ℕ → Type 0 where

@@ -11,6 +11,7 @@ use Rattle.text.specs.Put.{put}
 use Rattle.text.proofs.Texts.{and-left}
 use Rattle.rules.specs.Day.{Day, opened, fresh, refusalOf, tapeOf, after, ample}
 use Rattle.rules.specs.Sizes.{longestPrint}
+use Rattle.engine.proofs.Numbers.{taken-as}
 use Rattle.call_plan.specs.declared.Plan.{Plan}
 use Rattle.call_plan.specs.declared.Plan.the-variants.{Stop, Open, Enter, Change, Level, Step, Print, Cancel, Correct}
 use Rattle.engine.specs.declared.Answer.{Answer}
@@ -60,7 +61,7 @@ module _ (s : State) (day : Day) (sized : Sized s) (holds : Holds s day) (reache
   r = record { outcome = outcomeOf q (length (printOf (s .settings) (s .names) q)); settings = settingsAfter (s .settings) q }
 
   taken : Taken (s .settings) (s .table) (s .names) (c .line) (c .tape) (m .table) (m .names) b r
-  taken = record { outcome = refl; settings = refl; table-is = refl; names-is = refl; tape-is = refl }
+  taken = taken-as (s .settings) (s .table) (s .names) (c .line) (c .tape) (m .table) (m .names) b r refl refl refl refl refl
 
   call-prints : printOf (s .settings) (s .names) q ≡ tapeOf day (ample (c .line))
   call-prints = sym (link-tape s m c b r taken refl) ∙ (link-holds s m c b r taken refl day sized holds .0 ∙ same-tape day (c .line) reached (length (c .tape)) enough)

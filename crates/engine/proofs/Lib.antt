@@ -1,3 +1,4 @@
+pub mod Numbers
 pub mod Arms
 pub mod Steps
 pub mod TradeOnly

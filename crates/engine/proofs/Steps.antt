@@ -5,6 +5,7 @@ use mathlib.Core.List.{List}
 use lib.ListN.{length}
 use Rattle.text.specs.Put.{put, Written}
 use Rattle.rules.specs.declared.Settings.{Settings}
+use Rattle.engine.proofs.Numbers.{taken-as}
 use Rattle.call_plan.specs.declared.Plan.{Plan}
 use Rattle.call_plan.specs.Plan.{planOf}
 use Rattle.engine.specs.declared.Outcome.{Outcome}
@@ -26,10 +27,9 @@ module _ (st : Settings) (table names line tape table′ names′ tape′ : List
       → Taken st table names line tape table′ names′ tape′ (record { outcome = o; settings = s })
   taken e f v t m x y =
       let is : q ≡ asked st table names line (length tape) = asked-for st table names line p q (length tape) e f in
-      record {
-        outcome = x ∙ (ap (outcomeOf q) (v .count-is) ∙ ap (λ (z : Plan). outcomeOf z (length (printOf st names z))) is);
-        settings = y ∙ ap (settingsAfter st) is;
-        table-is = t ∙ ap (tableAfter table) is;
-        names-is = m ∙ ap (namesAfter names line) is;
-        tape-is = v .tape ∙ ap (λ (z : Plan). put (printOf st names z) tape) is;
-      }
+      taken-as st table names line tape table′ names′ tape′ (record { outcome = o; settings = s })
+      (x ∙ (ap (outcomeOf q) (v .count-is) ∙ ap (λ (z : Plan). outcomeOf z (length (printOf st names z))) is))
+      (y ∙ ap (settingsAfter st) is)
+      (t ∙ ap (tableAfter table) is)
+      (m ∙ ap (namesAfter names line) is)
+      (v .tape ∙ ap (λ (z : Plan). put (printOf st names z) tape) is)

@@ -25,6 +25,7 @@ use Rattle.rules.specs.declared.Security.{Security}
 use Rattle.rules.specs.declared.Refusal.{Refusal}
 use Rattle.rules.specs.declared.Refusal.the-variants.{NotEntered, Conditions, Room}
 use Rattle.rules.specs.Sizes.{width}
+use Rattle.engine.proofs.Numbers.{taken-as}
 use Rattle.call_table.specs.Rows.{row, withRow, nameOf}
 use Rattle.print_side.specs.Columns.{SideColumns}
 use Rattle.line_trade.specs.declared.TradeLine.{TradeLine}
@@ -221,13 +222,12 @@ module _ (st : Settings) (line : List ℕ) (t : TradeLine) (h : GoodCall st line
           taken : Taken st table names line tape table′ names tape′ (record { outcome = Accepted k; settings = st })
           taken =
               let is = sym asked-is in
-              record {
-                outcome = ap Accepted (w .count-is ∙ ap length (sym text-is)) ∙ (outcome-is (length (printOf st names (Print plan))) ∙ ap (λ (q : Plan). outcomeOf q (length (printOf st names q))) is);
-                settings = settings-is ∙ ap (settingsAfter st) is;
-                table-is = e ∙ (table-is ∙ ap (tableAfter table) is);
-                names-is = names-is ∙ ap (namesAfter names line) is;
-                tape-is = w .tape ∙ (ap (λ (z : List ℕ). put z tape) (sym text-is) ∙ ap (λ (q : Plan). put (printOf st names q) tape) is);
-              }
+              taken-as st table names line tape table′ names tape′ (record { outcome = Accepted k; settings = st })
+              (ap Accepted (w .count-is ∙ ap length (sym text-is)) ∙ (outcome-is (length (printOf st names (Print plan))) ∙ ap (λ (q : Plan). outcomeOf q (length (printOf st names q))) is))
+              (settings-is ∙ ap (settingsAfter st) is)
+              (e ∙ (table-is ∙ ap (tableAfter table) is))
+              (names-is ∙ ap (namesAfter names line) is)
+              (w .tape ∙ (ap (λ (z : List ℕ). put z tape) (sym text-is) ∙ ap (λ (q : Plan). put (printOf st names q) tape) is))
 
         pub carried : (tape table′ tape′ : List ℕ) (r : TradeAnswer) → Carried st s (nameOf names (t .security - 1)) (t .security - 1) (t .market) (sideIn t) table tape table′ tape′ r → TradeTaken st table names line tape table′ tape′ r
         carried tape table′ tape′ r c = record {

@@ -7,6 +7,7 @@ use lib.ListN.{length}
 use Rattle.text.specs.Put.{put}
 use Rattle.rules.specs.Line.{isShaped}
 use Rattle.rules.specs.declared.Settings.{Settings}
+use Rattle.rules.specs.Refusal.{numberOf}
 use Rattle.call_plan.specs.declared.Plan.{Plan}
 use Rattle.call_plan.specs.declared.Plan.the-variants.{Stop, Open, Enter, Change, Level, Step, Print, Cancel, Correct}
 use Rattle.call_plan.specs.Plan.{planOf}
@@ -35,8 +36,34 @@ outcomeOf (Print t) n = Accepted n
 outcomeOf (Cancel t) n = Accepted n
 outcomeOf (Correct c) n = Accepted n
 
+-- ---- an outcome in document 01's numbers
+
+-- 0 where the line is accepted, else the number of its refusal
+unfoldable pub answerOf : Outcome → ℕ
+answerOf (Accepted n) = 0
+answerOf (Refused r) = numberOf r
+
+-- the length of its print, 0 where nothing prints
+unfoldable pub countOf : Outcome → ℕ
+countOf (Accepted n) = n
+countOf (Refused r) = 0
+
+-- the number of the refusal that stops a plan, 0 where none does
+unfoldable pub stopNumber : Plan → ℕ
+stopNumber (Stop r) = numberOf r
+stopNumber (Open d) = 0
+stopNumber (Enter i s) = 0
+stopNumber (Change m) = 0
+stopNumber (Level l) = 0
+stopNumber (Step l) = 0
+stopNumber (Print t) = 0
+stopNumber (Cancel t) = 0
+stopNumber (Correct c) = 0
+
 -- ---- a call: settings, tables, line and tape at entry, tables and tape at exit, and the answer
 pub record Taken (st : Settings) (table names line tape table′ names′ tape′ : List ℕ) (r : Answer) : Type 0 where
+  pub answer-is : answerOf (r .outcome) ≡ stopNumber (asked st table names line (length tape))
+  pub count-is : countOf (r .outcome) ≡ length (printOf st names (asked st table names line (length tape)))
   pub outcome : r .outcome ≡ outcomeOf (asked st table names line (length tape)) (length (printOf st names (asked st table names line (length tape))))
   pub settings : r .settings ≡ settingsAfter st (asked st table names line (length tape))
   pub table-is : table′ ≡ tableAfter table (asked st table names line (length tape))

@@ -11,9 +11,10 @@ use rules::Refusal;
 use rules::SECOND_SIDE;
 use rules::Settings;
 ghost use mathlib.Core.Path.{_≡_};
+ghost use Rattle.rules.specs.Refusal.{numberOf};
 ghost use Rattle.rules.specs.Day.{opened};
 ghost use Rattle.engine.specs.Calls.{GoodCall};
-ghost use Rattle.engine.specs.Taken.{asked, outcomeOf, Taken, TradeTaken};
+ghost use Rattle.engine.specs.Taken.{asked, outcomeOf, Taken, TradeTaken, answerOf, countOf};
 
 // Accepted, with the length of its print, 0 where nothing prints; or refused.
 pub enum Outcome {
@@ -39,6 +40,50 @@ fn outcome_of(p: Plan, n: usize) -> Outcome
         Plan::Print(_) => Outcome::Accepted(n),
         Plan::Cancel(_) => Outcome::Accepted(n),
         Plan::Correct(_) => Outcome::Accepted(n),
+    }
+}
+
+// ---- an answer in document 01's numbers
+
+// A refusal's number in document 01.
+pub fn number_of(r: Refusal) -> u64
+    ensures { λ n. ⌜ n ≡ numberOf r ⌝ }
+{
+    match r {
+        Refusal::Shape => 1,
+        Refusal::Kind => 2,
+        Refusal::NoDate => 3,
+        Refusal::Form => 4,
+        Refusal::Value => 5,
+        Refusal::NotEntered => 6,
+        Refusal::InUse => 7,
+        Refusal::Name => 8,
+        Refusal::SameName => 9,
+        Refusal::Conditions => 10,
+        Refusal::Unmatched => 11,
+        Refusal::DateOrder => 12,
+        Refusal::Room => 13,
+        Refusal::NoPrint => 14,
+    }
+}
+
+// 0 where the line is accepted, else the number of its refusal.
+pub fn answer_of(o: Outcome) -> u64
+    ensures { λ r. ⌜ r ≡ answerOf o ⌝ }
+{
+    match o {
+        Outcome::Accepted(_) => 0,
+        Outcome::Refused(x) => number_of(x),
+    }
+}
+
+// The length of its print, 0 where nothing prints.
+pub fn count_of(o: Outcome) -> usize
+    ensures { λ r. ⌜ r ≡ countOf o ⌝ }
+{
+    match o {
+        Outcome::Accepted(n) => n,
+        Outcome::Refused(_) => 0,
     }
 }
 

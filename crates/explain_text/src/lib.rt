@@ -62,7 +62,7 @@ fn write_fate(rest: &mut [u8], f: Fate) -> usize
 {
     match f {
         Fate::Refused(r) => {
-            let n = feed_lines::number_of(r);
+            let n = engine::number_of(r);
             write_refused(rest, n)
         }
         Fate::Accepted => text::write_bytes(rest, b"accepted"),

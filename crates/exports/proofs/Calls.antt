@@ -10,13 +10,13 @@ use Rattle.rules.specs.Line.{modeOf}
 use Rattle.rules.specs.declared.Mode.{Mode}
 use Rattle.rules.specs.declared.Mode.the-variants.{Normal, Dvd, Rpo, Mpv}
 use Rattle.rules.specs.declared.Settings.{Settings}
+use Rattle.engine.proofs.Numbers.{taken-as}
 use Rattle.call_plan.specs.declared.Plan.{Plan}
 use Rattle.call_plan.specs.declared.Plan.the-variants.{Stop, Open, Enter, Change, Level, Step, Print, Cancel, Correct}
 use Rattle.call_print.specs.Print.{textOf, printOf}
 use Rattle.call_state.specs.After.{settingsAfter, tableAfter, namesAfter}
-use Rattle.engine.specs.Taken.{asked, outcomeOf, Taken}
-use Rattle.claim_calls.specs.Run.{countOf}
-use Rattle.exports.specs.Numbers.{letterOf, numbersOf, settingsOf, answerOf, leftBy, outcomeAt, TakenNumbers, Kept}
+use Rattle.engine.specs.Taken.{asked, outcomeOf, Taken, answerOf, countOf}
+use Rattle.exports.specs.Numbers.{letterOf, numbersOf, settingsOf, leftBy, outcomeAt, TakenNumbers, Kept}
 
 -- ---- settings come back from their numbers
 
@@ -46,7 +46,7 @@ settings-left (Correct c) n numbers = settings-back (settingsAfter (settingsOf n
 
 module _ (numbers table names line tape : List ℕ) (st : Settings) (n : ℕ) where
   kept-by : (p : Plan) → 1 ≤ answerOf (outcomeOf p n) → Kept numbers table names tape (leftBy (outcomeOf p n) numbers (settingsAfter st p)) (tableAfter table p) (namesAfter names line p) (put (printOf st names p) tape) (countOf (outcomeOf p n))
-  unfolding outcomeOf tableAfter namesAfter put printOf textOf countOf
+  unfolding outcomeOf tableAfter namesAfter put printOf textOf countOf answerOf
   kept-by (Stop r) h = record { numbers-kept = refl; table-kept = refl; names-kept = refl; tape-kept = refl; count-none = refl }
   kept-by (Open d) h = absurd (omega arith)
   kept-by (Enter i s) h = absurd (omega arith)
@@ -62,13 +62,12 @@ module _ (numbers table names line tape : List ℕ) (st : Settings) (n : ℕ) wh
 module _ (numbers table names line tape numbers′ table′ names′ tape′ : List ℕ) (count answer : ℕ) (t : TakenNumbers numbers table names line tape numbers′ table′ names′ tape′ count answer) where
   -- it is a call of the engine, on the settings that the numbers are and to the settings that they then are
   pub as-call : Taken (settingsOf numbers) table names line tape table′ names′ tape′ (record { outcome = outcomeAt numbers table names line tape; settings = settingsOf numbers′ })
-  as-call = record {
-    outcome = refl;
-    settings = ap settingsOf (t .numbers-are) ∙ settings-left (asked (settingsOf numbers) table names line (length tape)) _ numbers;
-    table-is = t .table-is;
-    names-is = t .names-is;
-    tape-is = t .tape-is;
-  }
+  as-call =
+      taken-as (settingsOf numbers) table names line tape table′ names′ tape′ _ refl
+      (ap settingsOf (t .numbers-are) ∙ settings-left (asked (settingsOf numbers) table names line (length tape)) _ numbers)
+      (t .table-is)
+      (t .names-is)
+      (t .tape-is)
 
   -- a refused line leaves every number and byte as it was
   pub refused-keeps : 1 ≤ answer → Kept numbers table names tape numbers′ table′ names′ tape′ count

@@ -17,13 +17,12 @@ use Rattle.facts_numbers.specs.Numbers.{entryNumbers}
 use Rattle.engine.specs.declared.Outcome.{Outcome}
 use Rattle.engine.specs.declared.Outcome.the-variants.{Accepted, Refused}
 use Rattle.engine.specs.declared.Answer.{Answer}
-use Rattle.engine.specs.Taken.{Taken}
-use Rattle.claim_calls.specs.Run.{countOf}
+use Rattle.engine.specs.Taken.{Taken, answerOf, countOf}
 use Rattle.reader.specs.declared.ReadAnswer.{ReadAnswer}
 use Rattle.reader.specs.declared.ReadAnswer.the-variants as read
 use Rattle.reader.specs.Read.{readAt}
 use Rattle.read_numbers.specs.Numbers.{numbersAt}
-use Rattle.exports.specs.Numbers.{numbersOf, settingsOf, answerOf, leftBy, TakenNumbers}
+use Rattle.exports.specs.Numbers.{numbersOf, settingsOf, leftBy, TakenNumbers}
 use Rattle.exports.specs.Reading.{readAnswer, ReadNumbers}
 
 pub settings-are : (numbers : List ℕ) (m : Mode) → m ≡ modeOf (getD numbers 1 0) → _≡_ {A = Settings} (record { date = getD numbers 0 0; mode = m; level = getD numbers 2 0; minimum = getD numbers 3 0 }) (settingsOf numbers)
@@ -34,9 +33,6 @@ numbers-are st after numbers′ e f = rw (← e) f
 
 pub left-accepted : (o : Outcome) (n : ℕ) (numbers numbers′ : List ℕ) (st : Settings) → o ≡ Accepted n → numbers′ ≡ numbersOf st → numbers′ ≡ leftBy o numbers st
 left-accepted o n numbers numbers′ st e f = rw e f
-
-pub answer-refused : (o : Outcome) (r : Refusal) (n : ℕ) → o ≡ Refused r → n ≡ numberOf r → n ≡ answerOf o
-answer-refused o r n e f = rw e f
 
 -- the engine's call on the settings that the numbers are
 pub taken-numbers : (numbers table names line tape numbers′ table′ names′ tape′ : List ℕ) (count answer : ℕ) (st : Settings) (a : Answer)

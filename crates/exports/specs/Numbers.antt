@@ -11,8 +11,7 @@ use Rattle.rules.specs.declared.Mode.the-variants.{Normal, Dvd, Rpo, Mpv}
 use Rattle.rules.specs.declared.Settings.{Settings}
 use Rattle.engine.specs.declared.Outcome.{Outcome}
 use Rattle.engine.specs.declared.Outcome.the-variants.{Accepted, Refused}
-use Rattle.engine.specs.Taken.{asked, outcomeOf}
-use Rattle.claim_calls.specs.Run.{countOf}
+use Rattle.engine.specs.Taken.{asked, outcomeOf, answerOf, countOf}
 use Rattle.call_print.specs.Print.{printOf}
 use Rattle.call_state.specs.After.{settingsAfter, tableAfter, namesAfter}
 
@@ -33,11 +32,6 @@ abbrev pub settingsOf : List ℕ → Settings
 settingsOf numbers = record { date = getD numbers 0 0; mode = modeOf (getD numbers 1 0); level = getD numbers 2 0; minimum = getD numbers 3 0 }
 
 -- ---- an answer
-
--- 0 where the line is accepted, else document 01's number of the refusal
-abbrev pub answerOf : Outcome → ℕ
-answerOf (Accepted n) = 0
-answerOf (Refused r) = numberOf r
 
 -- a refused line leaves the four numbers as they are
 abbrev pub leftBy : Outcome → List ℕ → Settings → List ℕ

@@ -11,9 +11,8 @@ ghost use Rattle.rules.specs.Day.{opened};
 ghost use Rattle.rules.specs.Shown.{shownBy};
 ghost use Rattle.rules.specs.Line.{modeOf};
 ghost use Rattle.call_table.specs.Rows.{dayOf};
-ghost use Rattle.claim_calls.specs.Run.{countOf};
 ghost use Rattle.facts_numbers.specs.Numbers.{entryNumbers};
-ghost use Rattle.exports.specs.Numbers.{letterOf, numbersOf, settingsOf, answerOf, leftBy, TakenNumbers};
+ghost use Rattle.exports.specs.Numbers.{letterOf, numbersOf, settingsOf, leftBy, TakenNumbers};
 ghost use Rattle.exports.specs.Reading.{readAnswer, ReadNumbers};
 
 // ---- settings as four numbers
@@ -63,26 +62,6 @@ fn numbers_of(st: Settings) -> [u64; 4]
     [st.date, letter_of(mode), st.level, st.minimum]
 }
 
-// ---- what an outcome says
-
-fn answer_of(o: Outcome) -> u64
-    ensures { λ r. ⌜ r ≡ answerOf o ⌝ }
-{
-    match o {
-        Outcome::Accepted(_) => 0,
-        Outcome::Refused(x) => feed_lines::number_of(x),
-    }
-}
-
-fn count_of(o: Outcome) -> u64
-    ensures { λ r. ⌜ r ≡ countOf o ⌝ }
-{
-    match o {
-        Outcome::Accepted(n) => n as u64,
-        Outcome::Refused(_) => 0,
-    }
-}
-
 // Settings are written only where the line is accepted.
 fn leave(numbers: &mut [u64; 4], o: Outcome, st: Settings)
     ensures { λ r. ⌜ now (numbers .exit) ≡ leftBy o (now (numbers .entry)) st ⌝ }
@@ -101,7 +80,7 @@ fn read_answer(r: ReadAnswer) -> u64
         ReadAnswer::Cancel(_) => 0,
         ReadAnswer::Error(_) => 0,
         ReadAnswer::Correction(_) => 0,
-        ReadAnswer::Refused(x) => feed_lines::number_of(x),
+        ReadAnswer::Refused(x) => engine::number_of(x),
     }
 }
 
@@ -133,8 +112,8 @@ pub extern "C" fn lekphimon_take_line(
     let outcome = answer.outcome;
     let after = answer.settings;
     leave(settings, outcome, after);
-    *count = count_of(outcome);
-    answer_of(outcome)
+    *count = engine::count_of(outcome) as u64;
+    engine::answer_of(outcome)
 }
 
 // What a call of `lekphimon_take_line` with this line and a tape of `room` bytes would add to the shown facts: the thirteen

@@ -17,10 +17,10 @@ use Rattle.call_table.specs.Rows.{dayOf}
 use Rattle.engine.specs.declared.Outcome.{Outcome}
 use Rattle.engine.specs.declared.Outcome.the-variants.{Accepted, Refused}
 use Rattle.engine.specs.declared.Answer.{Answer}
-use Rattle.engine.specs.Taken.{asked, Taken}
+use Rattle.engine.specs.Taken.{asked, Taken, countOf}
 use Rattle.call_print.specs.Print.{printOf}
-use Rattle.claim_calls.specs.Run.{State, Lent, countOf}
-use Rattle.claim_calls.proofs.Runs.{count-is, link-held}
+use Rattle.claim_calls.specs.Run.{State, Lent}
+use Rattle.claim_calls.proofs.Runs.{link-held}
 use Rattle.facts_entry.specs.Entry.{factIn}
 use Rattle.facts_entry.specs.Short.{ShortShown}
 use Rattle.facts_entry.specs.declared.Entry.{Entry}
@@ -31,17 +31,6 @@ use Rattle.facts_block.specs.Shows.{Shows, Progress, lineShown, Stands, 
 use Rattle.facts_block.specs.declared.Told.{Told}
 use Rattle.facts_block.specs.declared.Shown.{Shown}
 
-module _ (o : Outcome) where
-  pub count-accepted : (n : ℕ) → o ≡ Accepted n → n ≡ countOf o
-  unfolding countOf
-  count-accepted n e = rw e
-
-  pub count-refused : (r : Refusal) → o ≡ Refused r → 0 ≡ countOf o
-  unfolding countOf
-  count-refused r e = rw e
-
-pub ruleset counts = (count-accepted, count-refused)
-
 -- ---- the call: lent a tape of `longestPrint` bytes, `n` of them printed
 
 module _ (st : Settings) (table names line tape table′ names′ tape′ : List ℕ) (a : Answer) (n : ℕ) (t : Taken st table names line tape table′ names′ tape′ a) (count : n ≡ countOf (a .outcome)) where
@@ -49,7 +38,7 @@ module _ (st : Settings) (table names line tape table′ names′ tape′ : List
   print = printOf st names (asked st table names line (length tape))
 
   print-length : n ≡ length print
-  print-length = count ∙ (ap countOf (t .outcome) ∙ count-is st names (asked st table names line (length tape)))
+  print-length = count ∙ t .count-is
 
   pub count-fits : (m : ℕ) → length tape′ ≡ m → n ≤ m
   unfolding put

@@ -2,14 +2,12 @@
 // its entry is gathered in a lent block. A call is lent a tape of LONGEST_PRINT bytes.
 use call_table::Names;
 use call_table::Table;
-use engine::Outcome;
 use rules::LONGEST_PRINT;
 use rules::Settings;
 ghost use mathlib.Core.Path.{_≡_};
 ghost use mathlib.Core.List.{[], _∷_};
 ghost use Prim.Native.Nat.{_-_, _≤_};
 ghost use lib.ListN.{length, take, drop};
-ghost use Rattle.claim_calls.specs.Run.{countOf};
 ghost use Rattle.facts_block.specs.Shows.{Shows, started, linesShown, blockShown, Stands, Steps, factRoom};
 
 // A call's settings, and how many bytes its entry's line has.
@@ -26,15 +24,6 @@ pub struct Shown {
     pub settings: Settings,
     pub at: usize,
     pub facts: usize,
-}
-
-fn count_of(o: Outcome) -> usize
-    ensures { λ r. ⌜ r ≡ countOf o ⌝ }
-{
-    match o {
-        Outcome::Accepted(n) => n,
-        Outcome::Refused(_) => 0,
-    }
 }
 
 // One call, and the line of its entry at the start of `rest`.
@@ -56,7 +45,7 @@ fn take_shown(
     let a = engine::take_line(st, table, names, line, &mut tape);
     let settings = a.settings;
     let outcome = a.outcome;
-    let n = count_of(outcome);
+    let n = engine::count_of(outcome);
     let k = facts_line::write_entry(rest, &tape[..n], e);
     Told {
         settings: settings,

@@ -18,10 +18,10 @@ use Rattle.rules.specs.declared.Settings.{Settings}
 use Rattle.rules.specs.Sizes.{width}
 use Rattle.engine.specs.declared.Outcome.the-variants.{Accepted}
 use Rattle.call_trade.specs.declared.TradeAnswer.{TradeAnswer}
-use Rattle.engine.specs.Taken.{Taken, TradeTaken}
+use Rattle.engine.specs.Taken.{Taken, TradeTaken, countOf}
 use Rattle.feed_blocks.specs.Lines.{endsAt}
 use Rattle.feed_blocks.proofs.Scan.{line-at}
-use Rattle.feed_lines.specs.Feed.{Progress, printed, told, roomLeft, linesFrom, endsLine, Here, Steps, Runs}
+use Rattle.feed_lines.specs.Feed.{Progress, told, roomLeft, linesFrom, endsLine, Here, Steps, Runs}
 use Rattle.feed_lines.specs.declared.Fed.{Fed}
 use Rattle.feed_lines.proofs.Steps.{taken-fits, taken-size, line-fed}
 use Rattle.feed_lines.proofs.Blocks.{room-number, line-then, last-then, here-next}
@@ -87,7 +87,7 @@ module _ (last : Bool) (block names refusals table₀ tape₀ : List ℕ) (st : 
       taken = not-false (p .taken) went
 
       fits : p .length ≤ length tape - r .tape
-      unfolding printed
+      unfolding countOf
       fits = omega (arith, taken-fits st table names line lent table′ names ys _ (t .taken-is taken), length-take (length tape - r .tape) (drop (r .tape) tape), length-drop (r .tape) tape)
 
       pub print-adds : length tape₀ < 2 ^ 64 → Fits w64 (r .tape + p .length)
@@ -99,7 +99,7 @@ module _ (last : Bool) (block names refusals table₀ tape₀ : List ℕ) (st : 
         in-block = ends-in last block (r .at + width) (sym tells ∙ not-false b ends)
 
         steps : Steps line table names tape refusals r table′ names tape′ refusals next
-        unfolding printed told
+        unfolding countOf told
         steps =
             let k : List ℕ = take (length refusals - r .refusals) (drop (r .refusals) refusals) in
             let here : Taken (r .settings) table names line lent table′ names ys (record { outcome = Accepted (p .length); settings = r .settings }) = rw (inv .settings-is) (t .taken-is taken) in

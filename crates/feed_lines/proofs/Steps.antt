@@ -20,25 +20,12 @@ use Rattle.call_plan.specs.Plan.{planOf}
 use Rattle.engine.specs.declared.Outcome.{Outcome}
 use Rattle.engine.specs.declared.Answer.{Answer}
 use Rattle.call_print.specs.Print.{printedName, textOf, fittedOf, printOf}
-use Rattle.engine.specs.Taken.{asked, outcomeOf, Taken}
+use Rattle.engine.specs.Taken.{asked, outcomeOf, Taken, countOf}
 use Rattle.call_state.specs.After.{settingsAfter, tableAfter, namesAfter}
-use Rattle.feed_lines.specs.Feed.{Progress, printed, told, carried, lineTaken, Stands, Steps}
+use Rattle.feed_lines.specs.Feed.{Progress, told, carried, lineTaken, Stands, Steps}
 use Rattle.feed_lines.specs.declared.Fed.{Fed}
 
--- a print is as long as the outcome says
-print-counted : (st : Settings) (names : List ℕ) (p : Plan) → printed (outcomeOf p (length (printOf st names p))) ≡ length (printOf st names p)
-unfolding printed outcomeOf printOf textOf
-print-counted st names (Stop r) = refl
-print-counted st names (Open n) = refl
-print-counted st names (Enter i s) = refl
-print-counted st names (Change m) = refl
-print-counted st names (Level n) = refl
-print-counted st names (Step n) = refl
-print-counted st names (Print t) = refl
-print-counted st names (Cancel t) = refl
-print-counted st names (Correct c) = refl
-
--- and fits the tape that was lent for it
+-- a print fits the tape that was lent for it
 print-fits : (st : Settings) (table names line : List ℕ) (room : ℕ) → length (printOf st names (asked st table names line room)) ≤ room
 unfolding asked fittedOf printOf textOf pick
 print-fits st table names line room = go (planOf st table names line) (ltb room (length (textOf st (printedName names (planOf st table names line)) (planOf st table names line)))) refl
@@ -49,8 +36,8 @@ print-fits st table names line room = go (planOf st table names line) (ltb room 
 
 -- what a call puts on the tape fits it, and the tape stays as long as it was
 module _ (st : Settings) (table names line tape table′ names′ tape′ : List ℕ) (a : Answer) (t : Taken st table names line tape table′ names′ tape′ a) where
-  pub taken-fits : printed (a .outcome) ≤ length tape
-  taken-fits = omega (arith, ap printed (t .outcome) ∙ print-counted st names (asked st table names line (length tape)), print-fits st table names line (length tape))
+  pub taken-fits : countOf (a .outcome) ≤ length tape
+  taken-fits = omega (arith, t .count-is, print-fits st table names line (length tape))
 
   pub taken-size : length tape′ ≡ length tape
   taken-size = ap length (t .tape-is) ∙ length-put (printOf st names (asked st table names line (length tape))) tape (print-fits st table names line (length tape))
@@ -58,11 +45,11 @@ module _ (st : Settings) (table names line tape table′ names′ tape′ : List
 -- a call, by what it was lent and what it answered: `n` bytes on the tape, `k` told
 module _ (st : Settings) (table names line tape table′ names′ ys : List ℕ) (a : Answer) (at n : ℕ) where
   -- the sum of the bytes on the tape fits
-  pub tape-adds : Taken st table names line (take (length tape - at) (drop at tape)) table′ names′ ys a → n ≡ printed (a .outcome) → at ≤ length tape → length tape < 2 ^ 64 → Fits w64 (at + n)
+  pub tape-adds : Taken st table names line (take (length tape - at) (drop at tape)) table′ names′ ys a → n ≡ countOf (a .outcome) → at ≤ length tape → length tape < 2 ^ 64 → Fits w64 (at + n)
   tape-adds t c l h =
       let lent : List ℕ = take (length tape - at) (drop at tape) in
       let q : Plan = asked st table names line (length lent) in
-      let count : n ≡ length (printOf st names q) = c ∙ (ap printed (t .outcome) ∙ print-counted st names q) in
+      let count : n ≡ length (printOf st names q) = c ∙ t .count-is in
       record { fits = omega (arith, print-fits st table names line (length lent), length-take (length tape - at) (drop at tape), length-drop at tape) }
 
 pub told-adds : (text xs zs : List ℕ) (at k : ℕ) → Written text (take (length xs - at) (drop at xs)) zs k → 14 ≤ length xs - at → length xs < 2 ^ 64 → Fits w64 (at + k)
@@ -70,7 +57,7 @@ told-adds text xs zs at k w l h = record { fits = omega (arith, w .within, lengt
 
 module _ (f : Fed) (block table names tape refusals table′ names′ ys zs : List ℕ) (a : Answer) (end n k : ℕ) where
   pub line-fed : Taken (f .settings) table names (take (end - f .at) (drop (f .at) block)) (take (length tape - f .tape) (drop (f .tape) tape)) table′ names′ ys a
-      → n ≡ printed (a .outcome)
+      → n ≡ countOf (a .outcome)
       → Written (told (f .number) (a .outcome)) (take (length refusals - f .refusals) (drop (f .refusals) refusals)) zs k
       → f .at ≤ end → end ≤ length block
       → Steps (take (end - f .at) (drop (f .at) block)) table names tape refusals f table′ names′
@@ -87,7 +74,7 @@ module _ (f : Fed) (block table names tape refusals table′ names′ ys zs : Li
       let q : Plan = asked (f .settings) table names line (length lent) in
       let print : List ℕ = printOf (f .settings) names q in
       let is : q ≡ asked (p .settings) (p .table) (p .names) line (length tape₀ - length (p .tape)) = cc in
-      let count : n ≡ length print = c ∙ (ap printed (t .outcome) ∙ print-counted (f .settings) names q) in
+      let count : n ≡ length print = c ∙ t .count-is in
       let wrote : Written print lent ys n = record { tape = t .tape-is; count-is = count; within = omega (arith, print-fits (f .settings) table names line (length lent)) } in
       record {
         settings-is = t .settings ∙ (cc);
@@ -111,7 +98,7 @@ module _ (f : Fed) (block table names tape refusals table′ names′ ys zs : Li
   next = record { settings = a .settings; number = f .number + 1; at = end + 1; tape = f .tape + n; refusals = f .refusals + k }
 
   pub line-gone : Taken (f .settings) table names (take (end - f .at) (drop (f .at) block)) (take (length tape - f .tape) (drop (f .tape) tape)) table′ names′ ys a
-      → n ≡ printed (a .outcome)
+      → n ≡ countOf (a .outcome)
       → Written (told (f .number) (a .outcome)) (take (length refusals - f .refusals) (drop (f .refusals) refusals)) zs k
       → f .at ≤ end → end ≤ length block → f .tape ≤ length tape → 14 ≤ length refusals - f .refusals
       → Steps (take (end - f .at) (drop (f .at) block)) table names tape refusals f table′ names′ tape′ refusals′ next × (end + 1 ≡ end + 1) × (f .tape + n ≤ length tape′) × (f .refusals + k ≤ length refusals′)

@@ -14,7 +14,7 @@ use Rattle.engine.specs.declared.Outcome.{Outcome}
 use Rattle.engine.specs.declared.Outcome.the-variants.{Accepted, Refused}
 use Rattle.text_right.proofs.Writes.{length-right}
 use Rattle.feed_lines.specs.Refusals.{refusalLine}
-use Rattle.feed_lines.specs.Feed.{printed, told}
+use Rattle.feed_lines.specs.Feed.{told}
 
 -- ---- the whole line
 
@@ -23,17 +23,9 @@ pub length-refusal : (number : ℕ) (r : Refusal) → number ≤ 9999999999 → 
 unfolding refusalLine
 length-refusal number r h = simp length-append (omega (arith, length-right 9 number (omega arith), length-right 2 (numberOf r) (omega (arith, number-most r))))
 
--- ---- an outcome: what was printed, and what is told of it
+-- ---- what is told of an outcome
 
 module _ (o : Outcome) where
-  pub printed-some : (n : ℕ) → o ≡ Accepted n → n ≡ printed o
-  unfolding printed
-  printed-some n e = rw e
-
-  pub printed-none : (r : Refusal) → o ≡ Refused r → 0 ≡ printed o
-  unfolding printed
-  printed-none r e = rw e
-
   pub told-none : (number n : ℕ) (b : List ℕ) → o ≡ Accepted n → Written (told number o) b b 0
   unfolding told
   told-none number n b e = rw e (written-nothing b)

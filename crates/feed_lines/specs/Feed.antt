@@ -35,11 +35,6 @@ started st table names number = record { settings = st; table = table; names = n
 
 -- ---- one line
 
--- how many bytes an outcome put on the tape
-unfoldable pub printed : Outcome → ℕ
-printed (Accepted n) = n
-printed (Refused r) = 0
-
 -- what is told of it
 unfoldable pub told : ℕ → Outcome → List ℕ
 told number (Accepted n) = []

@@ -4,7 +4,6 @@ use call_table::Names;
 use call_table::Table;
 use engine::Outcome;
 use rules::LONGEST_PRINT;
-use rules::Refusal;
 use rules::Settings;
 use rules::WIDTH;
 ghost use mathlib.Core.Path.{_≡_};
@@ -12,9 +11,8 @@ ghost use mathlib.Core.List.{[], _∷_};
 ghost use Prim.Native.Nat.{_+_, _-_, _≤_};
 ghost use lib.ListN.{length, take, drop};
 ghost use Rattle.text.specs.Put.{Written};
-ghost use Rattle.rules.specs.Refusal.{numberOf};
 ghost use Rattle.feed_lines.specs.Refusals.{refusalLine};
-ghost use Rattle.feed_lines.specs.Feed.{started, printed, told, roomLeft, linesTaken, blockTaken, endsLine, Stands, Steps, Runs};
+ghost use Rattle.feed_lines.specs.Feed.{started, told, roomLeft, linesTaken, blockTaken, endsLine, Stands, Steps, Runs};
 
 // Where the reading of a block stands: the settings, the number of the next line, the bytes of the block that are read,
 // the bytes on the lent tape and in the lent refusals.
@@ -27,28 +25,6 @@ pub struct Fed {
 }
 
 // ---- refusals
-
-// A refusal's number in document 01.
-pub fn number_of(r: Refusal) -> u64
-    ensures { λ n. ⌜ n ≡ numberOf r ⌝ }
-{
-    match r {
-        Refusal::Shape => 1,
-        Refusal::Kind => 2,
-        Refusal::NoDate => 3,
-        Refusal::Form => 4,
-        Refusal::Value => 5,
-        Refusal::NotEntered => 6,
-        Refusal::InUse => 7,
-        Refusal::Name => 8,
-        Refusal::SameName => 9,
-        Refusal::Conditions => 10,
-        Refusal::Unmatched => 11,
-        Refusal::DateOrder => 12,
-        Refusal::Room => 13,
-        Refusal::NoPrint => 14,
-    }
-}
 
 fn write_refusal(rest: &mut [u8], number: u64, refusal: u64) -> usize
     requires { ⌜ length (refusalLine number refusal) ≤ length (now rest) ⌝ }
@@ -66,22 +42,13 @@ fn write_told(rest: &mut [u8], number: u64, o: Outcome) -> usize
     match o {
         Outcome::Accepted(_) => 0,
         Outcome::Refused(r) => {
-            let k = number_of(r);
+            let k = engine::number_of(r);
             write_refusal(rest, number, k)
         }
     }
 }
 
 // ---- one line
-
-fn printed_length(o: Outcome) -> usize
-    ensures { λ r. ⌜ r ≡ printed o ⌝ }
-{
-    match o {
-        Outcome::Accepted(n) => n,
-        Outcome::Refused(_) => 0,
-    }
-}
 
 // Room for any print (crate claim_daytape: none is longer than LONGEST_PRINT bytes) and a refusal, and a line number that is not past the last.
 fn room_left(f: Fed, tape: usize, refusals: usize) -> bool
@@ -118,7 +85,7 @@ fn feed_line(
     let a = engine::take_by_plan(st, table, names, &block[at..end], &mut tape[n..]);
     let settings = a.settings;
     let outcome = a.outcome;
-    let on_tape = n + printed_length(outcome);
+    let on_tape = n + engine::count_of(outcome);
     let in_refusals = k + write_told(&mut refusals[k..], f.number, outcome);
     Fed {
         settings: settings,

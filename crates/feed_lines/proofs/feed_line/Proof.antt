@@ -28,8 +28,8 @@ part-take-by-plan-end-2 c = search needs
 take-by-plan-requires : tie.Need-take-by-plan-requires
 take-by-plan-requires c κs = search needs
 
-printed-length-requires : tie.Need-printed-length-requires
-printed-length-requires c κs = search needs
+count-of-requires : tie.Need-count-of-requires
+count-of-requires c κs = search needs
 
 add-on-tape : tie.Need-add-on-tape
 add-on-tape c = search tape-adds
@@ -59,7 +59,7 @@ same-length-2 : tie.Need-same-length-2
 same-length-2 c = search needs
 
 returns : tie.Need-returns
-returns c = let q = c .before .before .before .before .before .before .before .before .before .before .before .before .before .before .before .before .before .before .pre in line-gone _ _ _ _ _ _ _ _ _ _ _ _ _ _ (c .before .before .before .before .before .before .before .before .before .take-by-plan .ensures) (c .before .before .before .before .before .printed-length .ensures) (c .before .before .before .write-told .ensures) (q .0) (q .1) (q .2) (q .3)
+returns c = let q = c .before .before .before .before .before .before .before .before .before .before .before .before .before .before .before .before .before .before .pre in line-gone _ _ _ _ _ _ _ _ _ _ _ _ _ _ (c .before .before .before .before .before .before .before .before .before .take-by-plan .ensures) (c .before .before .before .before .before .count-of .ensures) (c .before .before .before .write-told .ensures) (q .0) (q .1) (q .2) (q .3)
 
 pub feed-line-spec : {M : Type 1} → statement M
 feed-line-spec =
@@ -73,7 +73,7 @@ feed-line-spec =
     part-take-by-plan-start-2
     part-take-by-plan-end-2
     take-by-plan-requires
-    printed-length-requires
+    count-of-requires
     add-on-tape
     sub-write-told
     part-write-told-start

@@ -1,7 +1,7 @@
 use Rattle.rules.specs.Refusal.{numberOf}
 use borrow.Author.Needs.{needs}
-use Rattle.feed_lines.proofs.number_of.Statement.{statement}
-use Rattle.feed_lines.proofs.number_of.Tie as tie
+use Rattle.engine.proofs.number_of.Statement.{statement}
+use Rattle.engine.proofs.number_of.Tie as tie
 
 enum-told : tie.Need-enum-told
 enum-told c = search needs

@@ -1,7 +1,7 @@
-use Rattle.exports.proofs.Laws.{answer-refused}
+use Rattle.engine.proofs.Numbers.{answer-refused, answer-accepted}
 use borrow.Author.Needs.{needs}
-use Rattle.exports.proofs.answer_of.Statement.{statement}
-use Rattle.exports.proofs.answer_of.Tie as tie
+use Rattle.engine.proofs.answer_of.Statement.{statement}
+use Rattle.engine.proofs.answer_of.Tie as tie
 
 enum-told : tie.Need-enum-told
 enum-told c = search needs
@@ -13,7 +13,7 @@ number-of-requires : tie.Need-number-of-requires
 number-of-requires c κs = search needs
 
 returns : tie.Need-returns
-returns c = search needs
+returns c = search answer-accepted
 
 returns-2 : tie.Need-returns-2
 returns-2 c = search answer-refused
