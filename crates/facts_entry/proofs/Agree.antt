@@ -28,6 +28,7 @@ use Rattle.rules.specs.declared.Refusal.{Refusal}
 use Rattle.rules.specs.declared.Settings.{Settings}
 use Rattle.rules.specs.declared.Side.{Side}
 use Rattle.rules.specs.declared.Security.{Security}
+use Rattle.facts_entry.proofs.Back.{entry-back}
 use Rattle.call_table.specs.Sizes.{tableSize, namesSize}
 use Rattle.print_price.proofs.Texts.{units-small}
 use Rattle.call_table.specs.Rows.{row, nameOf, dayOf}
@@ -43,7 +44,7 @@ use Rattle.engine.specs.Taken.{asked}
 use Rattle.claim_calls.specs.Held.{stopOf}
 use Rattle.claim_calls.proofs.Agree.{by-rules, unless}
 use Rattle.facts_side.specs.Sound.{SoundSide}
-use Rattle.facts_entry.specs.Entry.{factIn, showsShares, volumeOf, planFact, SoundTrade, SoundCorrection, SoundFact}
+use Rattle.facts_entry.specs.Entry.{factIn, showsShares, volumeOf, planFact, SoundTrade, SoundCorrection, SoundFact, entryOf}
 use Rattle.facts_entry.specs.Short.{ShortConditions, ShortPart, ShortVolume, ShortFact, ShortShown}
 use Rattle.facts_entry.specs.declared.Entry.{Entry}
 use Rattle.facts_entry.proofs.Owed.{SmallTrade, SmallCorrection, SmallLine, small-line}
@@ -258,6 +259,11 @@ module _ (st : Settings) (table names : List ℕ) where
       told p r e h =
           ap (λ (t : List ℕ). factIn t r) (by-rules st table names line room rows places .print-is)
           ∙ (ap (λ (q : Plan). factIn (printOf st names q) r) (sym e) ∙ (h ∙ (ap (planFact st names) e ∙ asked-fact)))
+
+      -- and is the entry of what they show
+      pub entry-told : (p : Plan) (r : Entry) → p ≡ asked st table names line room → factIn (printOf st names p) r ≡ planFact st names p
+          → r ≡ entryOf (shownBy day (record { line = line; room = room }))
+      entry-told p r e h = sym (entry-back (tapeOf day (record { line = line; room = room })) r) ∙ ap entryOf (told p r e h)
 
       -- and its numbers are within their columns
       pub short-shown : ShortShown (shownBy day (record { line = line; room = room }))

@@ -1,3 +1,4 @@
+pub mod Back
 pub mod Arms
 pub mod Owed
 pub mod Agree

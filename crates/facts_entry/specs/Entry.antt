@@ -51,7 +51,28 @@ factIn text (Cancelled i x) = some (cancelled i (partIn x))
 factIn text (Erred i x) = some (erred i (partIn x))
 factIn text (Corrected i x y) = some (corrected i (partIn x) (partIn y))
 
--- ---- the fact of a plan (planner, Plan), by settings and names
+-- ---- the entry of a fact: each has one
+
+unfoldable pub conditionsAs : shown.Conditions → Conditions
+conditionsAs x = record { letters = x .letters; days = x .days; previous = x .previous }
+
+unfoldable pub partAs : shown.Part → Part
+partAs (inFull price x volume) = Full price (conditionsAs x) volume
+partAs (bare x) = Bare (conditionsAs x)
+
+unfoldable pub volumeAs : Option ℕ → Volume
+volumeAs none = Hidden
+volumeAs (some n) = Shown n
+
+unfoldable pub entryOf : Option Fact → Entry
+entryOf none = Silent
+entryOf (some (announced text)) = Announced
+entryOf (some (traded i temporary price x volume)) = Traded (record { security = i; temporary = temporary; price = price; conditions = conditionsAs x; volume = volumeAs volume })
+entryOf (some (cancelled i x)) = Cancelled i (partAs x)
+entryOf (some (erred i x)) = Erred i (partAs x)
+entryOf (some (corrected i x y)) = Corrected i (partAs x) (partAs y)
+
+-- ---- the fact of a plan (call_plan, Plan), by settings and names
 
 -- in normal always; otherwise where it puts characters on the tape
 unfoldable pub showsShares : Settings → TradePlan → Bool

@@ -24,7 +24,7 @@ ghost use Rattle.call_table.specs.Rows.{nameOf, dayOf};
 ghost use Rattle.call_plan.specs.declared.Plan.the-variants.{Print, Cancel, Correct};
 ghost use Rattle.call_print.specs.Print.{printOf};
 ghost use Rattle.facts_side.specs.Sound.{SoundSide};
-ghost use Rattle.facts_entry.specs.Entry.{conditionsIn, partIn, volumeIn, factIn, showsShares, volumeOf, planFact, SoundTrade, SoundCancel, SoundCorrection, SoundFact};
+ghost use Rattle.facts_entry.specs.Entry.{conditionsIn, partIn, volumeIn, factIn, showsShares, volumeOf, planFact, SoundTrade, SoundCancel, SoundCorrection, SoundFact, entryOf};
 
 // The conditions of a side as they are shown: N as M, C as K; days and previous last 0 for none. Prices are in units of ten
 // to the power -8 dollars.
@@ -221,9 +221,10 @@ fn plan_entry(st: Settings, names: &Names, p: Plan) -> Entry
 
 // ---- the entry point
 
-// The entry of a call that is lent a tape of `room` bytes, by the state that it finds.
+// The entry of what the rules show of a call that is lent a tape of `room` bytes, by the state that it finds; an announcement's
+// text is the call's print.
 pub fn entry_of(st: Settings, table: &Table, names: &Names, line: &[u8], room: usize) -> Entry
-    ensures { λ r. ⌜ factIn (tapeOf (dayOf st (now (table .entry)) (now (names .entry))) (record { line = now (line .entry); room = room })) r ≡ shownBy (dayOf st (now (table .entry)) (now (names .entry))) (record { line = now (line .entry); room = room }) ⌝ }
+    ensures { λ r. ⌜ (r ≡ entryOf (shownBy (dayOf st (now (table .entry)) (now (names .entry))) (record { line = now (line .entry); room = room }))) × (factIn (tapeOf (dayOf st (now (table .entry)) (now (names .entry))) (record { line = now (line .entry); room = room })) r ≡ shownBy (dayOf st (now (table .entry)) (now (names .entry))) (record { line = now (line .entry); room = room })) ⌝ }
 {
     // as slices the tables tell their sizes
     let _rows = &table[..];
