@@ -35,20 +35,20 @@ pub record Decided (st : Settings) (s : Security) (market : ℕ) (x : Side) (val
   pub prints-is : printsTrade st s market x ≡ true
   pub after-is : after ≡ afterTrade st s market x
 
--- carried out exactly if the print fits the tape: print and security after it; otherwise nothing is done
-pub record Fitted (st : Settings) (s : Security) (name : List ℕ) (place market : ℕ) (x : Side) (table tape table′ tape′ : List ℕ) (r : TradeAnswer) : Type 0 where
-  pub taken-is : r .taken ≡ leb (length (tradeText st s name market x)) (length tape)
+-- carried out exactly if it may be: print and security after it; otherwise nothing is done
+pub record Done (may : Bool) (st : Settings) (s : Security) (name : List ℕ) (place market : ℕ) (x : Side) (table tape table′ tape′ : List ℕ) (r : TradeAnswer) : Type 0 where
+  pub taken-is : r .taken ≡ may
   pub stored : r .taken ≡ true → table′ ≡ withRow table place (afterTrade st s market x)
   pub printed : r .taken ≡ true → Written (tradeText st s name market x) tape tape′ (r .length)
   pub untouched : r .taken ≡ false → table′ ≡ table
   pub unprinted : r .taken ≡ false → tape′ ≡ tape
   pub no-length : r .taken ≡ false → r .length ≡ 0
 
--- the same, where the letters' network is asked first
-pub record Carried (st : Settings) (s : Security) (name : List ℕ) (place market : ℕ) (x : Side) (table tape table′ tape′ : List ℕ) (r : TradeAnswer) : Type 0 where
-  pub taken-is : r .taken ≡ (onNetwork (s .network) (x .letters) && leb (length (tradeText st s name market x)) (length tape))
-  pub stored : r .taken ≡ true → table′ ≡ withRow table place (afterTrade st s market x)
-  pub printed : r .taken ≡ true → Written (tradeText st s name market x) tape tape′ (r .length)
-  pub untouched : r .taken ≡ false → table′ ≡ table
-  pub unprinted : r .taken ≡ false → tape′ ≡ tape
-  pub no-length : r .taken ≡ false → r .length ≡ 0
+-- if its print fits the tape
+abbrev pub Fitted : Settings → Security → List ℕ → ℕ → ℕ → Side → List ℕ → List ℕ → List ℕ → List ℕ → TradeAnswer → Type 0
+Fitted st s name place market x table tape = Done (leb (length (tradeText st s name market x)) (length tape)) st s name place market x table tape
+
+-- if J and G are on the right network, and then if it fits
+abbrev pub Carried : Settings → Security → List ℕ → ℕ → ℕ → Side → List ℕ → List ℕ → List ℕ → List ℕ → TradeAnswer → Type 0
+Carried st s name place market x table tape =
+    Done (onNetwork (s .network) (x .letters) && leb (length (tradeText st s name market x)) (length tape)) st s name place market x table tape
