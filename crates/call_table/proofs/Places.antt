@@ -12,6 +12,8 @@ use Rattle.rules.specs.declared.Security.{Security}
 use Rattle.rules.specs.Day.{vacant, noName}
 use Rattle.call_table.specs.Rows.{storedFrom, numbers, row, withRow, nameOf, withName, rowsFrom, namesFrom}
 use Rattle.text.proofs.Parts.{take-within}
+use Rattle.rules.specs.Sizes.{nameWidth}
+use Rattle.call_table.specs.Sizes.{rowSize}
 
 -- ---- numbers stored one after the other
 
@@ -37,7 +39,7 @@ within (v ∷ vs) t b n (suc k) h l =
     rw e (within vs (set t (b + n) v) b (suc n) k (le-of-suc-le-suc h) (rw length-set (omega arith)))
 
 -- a row is its eleven numbers
-row-by : (t : List ℕ) (i : ℕ) (f : ℕ → ℕ) → ((k : ℕ) → k < 11 → getD t (i * 11 + k) 0 ≡ f k) → row t i ≡ record { unit = f 0; network = f 1; market = f 2; first = f 3; printed = f 4; high = f 5; low = f 6; last = f 7; trades = f 8; qualified = f 9; primaries = f 10 }
+row-by : (t : List ℕ) (i : ℕ) (f : ℕ → ℕ) → ((k : ℕ) → k < rowSize → getD t (i * rowSize + k) 0 ≡ f k) → row t i ≡ record { unit = f 0; network = f 1; market = f 2; first = f 3; printed = f 4; high = f 5; low = f 6; last = f 7; trades = f 8; qualified = f 9; primaries = f 10 }
 row-by t i f at = λ x. record {
   unit = at 0 (omega arith) x;
   network = at 1 (omega arith) x;
@@ -52,18 +54,18 @@ row-by t i f at = λ x. record {
   primaries = at 10 (omega arith) x;
 }
 
-stored-at : (t : List ℕ) (i : ℕ) (s : Security) → i * 11 + 11 ≤ length t → (k : ℕ) → k < 11 → getD (withRow t i s) (i * 11 + k) 0 ≡ getD (numbers s) k 0
+stored-at : (t : List ℕ) (i : ℕ) (s : Security) → i * rowSize + rowSize ≤ length t → (k : ℕ) → k < rowSize → getD (withRow t i s) (i * rowSize + k) 0 ≡ getD (numbers s) k 0
 stored-at t i s l k h =
-    let e : i * 11 + (0 + k) ≡ i * 11 + k = omega arith in
-    rw e at (within (numbers s) t (i * 11) 0 k h (omega arith))
+    let e : i * rowSize + (0 + k) ≡ i * rowSize + k = omega arith in
+    rw e at (within (numbers s) t (i * rowSize) 0 k h (omega arith))
 
-pub same-row : (t : List ℕ) (i : ℕ) (s : Security) → i * 11 + 11 ≤ length t → row (withRow t i s) i ≡ s
+pub same-row : (t : List ℕ) (i : ℕ) (s : Security) → i * rowSize + rowSize ≤ length t → row (withRow t i s) i ≡ s
 same-row t i s l = row-by (withRow t i s) i (λ k. getD (numbers s) k 0) (stored-at t i s l)
 
 pub other-row : (t : List ℕ) (i j : ℕ) (s : Security) → (i < j) ⊎ (j < i) → row (withRow t i s) j ≡ row t j
 other-row t i j s d =
-    row-by (withRow t i s) j (λ k. getD t (j * 11 + k) 0)
-    (λ k h. ⊎-elim (λ lt. above (numbers s) t (i * 11) 0 (j * 11 + k) (omega arith)) (λ gt. below (numbers s) t (i * 11) 0 (j * 11 + k) (omega arith)) d)
+    row-by (withRow t i s) j (λ k. getD t (j * rowSize + k) 0)
+    (λ k h. ⊎-elim (λ lt. above (numbers s) t (i * rowSize) 0 (j * rowSize + k) (omega arith)) (λ gt. below (numbers s) t (i * rowSize) 0 (j * rowSize + k) (omega arith)) d)
 
 -- ---- the rows as a list
 
@@ -78,7 +80,7 @@ unfolding rowsFrom
 rows-later zero i m t s h = refl
 rows-later (suc k) i m t s h = rw (other-row t m i s (inl h), rows-later k (suc i) m t s (omega arith))
 
-pub rows-set : (k i j : ℕ) (t : List ℕ) (s : Security) → j < k → (i + k) * 11 ≤ length t → rowsFrom k i (withRow t (i + j) s) ≡ set (rowsFrom k i t) j s
+pub rows-set : (k i j : ℕ) (t : List ℕ) (s : Security) → j < k → (i + k) * rowSize ≤ length t → rowsFrom k i (withRow t (i + j) s) ≡ set (rowsFrom k i t) j s
 unfolding rowsFrom
 rows-set zero i j t s h l = absurd (not-suc-le-zero h)
 rows-set (suc k) i zero t s h l =
@@ -100,33 +102,33 @@ placed names name ys at n h w =
     rw (none, append-nil, w .tape, every, drop-drop)
 
 -- the name put at place i is read there
-pub same-name : (names name : List ℕ) (i : ℕ) → length name ≡ 19 → i * 19 + 19 ≤ length names → nameOf (withName names (i * 19) name) i ≡ name
+pub same-name : (names name : List ℕ) (i : ℕ) → length name ≡ nameWidth → i * nameWidth + nameWidth ≤ length names → nameOf (withName names (i * nameWidth) name) i ≡ name
 unfolding nameOf withName
 same-name names name i e l =
-    rw (drop-at (take (i * 19) names) (name ++ drop (i * 19 + length name) names) (i * 19) (length-take-le (i * 19) names (omega arith)), take-at name (drop (i * 19 + length name) names) 19 e)
+    rw (drop-at (take (i * nameWidth) names) (name ++ drop (i * nameWidth + length name) names) (i * nameWidth) (length-take-le (i * nameWidth) names (omega arith)), take-at name (drop (i * nameWidth + length name) names) 19 e)
 
 -- a name before it is as it was
-pub name-before : (names name : List ℕ) (i j : ℕ) → j < i → i * 19 ≤ length names → nameOf (withName names (i * 19) name) j ≡ nameOf names j
+pub name-before : (names name : List ℕ) (i j : ℕ) → j < i → i * nameWidth ≤ length names → nameOf (withName names (i * nameWidth) name) j ≡ nameOf names j
 unfolding nameOf withName
 name-before names name i j h l =
-    let t = take (i * 19) names in
-    let n : length t ≡ i * 19 = length-take-le (i * 19) names l in
-    let d : 19 ≤ length (drop (j * 19) t) = rw length-drop (omega arith) in
-    rw (drop-append-le (j * 19) t _ (omega arith), take-append-le 19 (drop (j * 19) t) _ d) (take-within 19 (j * 19) (i * 19) names (omega arith))
+    let t = take (i * nameWidth) names in
+    let n : length t ≡ i * nameWidth = length-take-le (i * nameWidth) names l in
+    let d : nameWidth ≤ length (drop (j * nameWidth) t) = rw length-drop (omega arith) in
+    rw (drop-append-le (j * nameWidth) t _ (omega arith), take-append-le nameWidth (drop (j * nameWidth) t) _ d) (take-within 19 (j * nameWidth) (i * nameWidth) names (omega arith))
 
 -- and so is a name after it
-pub name-after : (names name : List ℕ) (i j : ℕ) → length name ≡ 19 → i < j → i * 19 + 19 ≤ length names → nameOf (withName names (i * 19) name) j ≡ nameOf names j
+pub name-after : (names name : List ℕ) (i j : ℕ) → length name ≡ nameWidth → i < j → i * nameWidth + nameWidth ≤ length names → nameOf (withName names (i * nameWidth) name) j ≡ nameOf names j
 unfolding nameOf withName
 name-after names name i j e h l =
-    let t = take (i * 19) names in
-    let n : length t ≡ i * 19 = length-take-le (i * 19) names (omega arith) in
-    let q : length (t ++ name) ≡ i * 19 + 19 = length-append t name ∙ omega (arith, n, e) in
-    let m : ℕ = j * 19 - (i * 19 + 19) in
-    let k : j * 19 ≡ i * 19 + 19 + m = omega arith in
-    let r = drop (i * 19 + length name) names in
-    let x : drop (i * 19 + 19 + m) (t ++ (name ++ r)) ≡ drop m r = rw (← append-assoc t name r) (ap (λ (z : ℕ). drop (z + m) ((t ++ name) ++ r)) (sym q) ∙ drop-append-add (t ++ name) r m) in
-    let y : drop m r ≡ drop (i * 19 + 19 + m) names = rw (e, drop-drop) in
-    rw k (ap (take 19) (x ∙ y))
+    let t = take (i * nameWidth) names in
+    let n : length t ≡ i * nameWidth = length-take-le (i * nameWidth) names (omega arith) in
+    let q : length (t ++ name) ≡ i * nameWidth + nameWidth = length-append t name ∙ omega (arith, n, e) in
+    let m : ℕ = j * nameWidth - (i * nameWidth + nameWidth) in
+    let k : j * nameWidth ≡ i * nameWidth + nameWidth + m = omega arith in
+    let r = drop (i * nameWidth + length name) names in
+    let x : drop (i * nameWidth + nameWidth + m) (t ++ (name ++ r)) ≡ drop m r = rw (← append-assoc t name r) (ap (λ (z : ℕ). drop (z + m) ((t ++ name) ++ r)) (sym q) ∙ drop-append-add (t ++ name) r m) in
+    let y : drop m r ≡ drop (i * nameWidth + nameWidth + m) names = rw (e, drop-drop) in
+    rw k (ap (take nameWidth) (x ∙ y))
 
 -- ---- the names as a list
 
@@ -136,12 +138,12 @@ names-get zero i j names h = absurd (not-suc-le-zero h)
 names-get (suc k) i zero names h = ap (nameOf names) (omega arith)
 names-get (suc k) i (suc j) names h = names-get k (suc i) j names (le-of-suc-le-suc h) ∙ ap (nameOf names) (omega arith)
 
-names-later : (k i m : ℕ) (names name : List ℕ) → length name ≡ 19 → m < i → m * 19 + 19 ≤ length names → namesFrom k i (withName names (m * 19) name) ≡ namesFrom k i names
+names-later : (k i m : ℕ) (names name : List ℕ) → length name ≡ nameWidth → m < i → m * nameWidth + nameWidth ≤ length names → namesFrom k i (withName names (m * nameWidth) name) ≡ namesFrom k i names
 unfolding namesFrom
 names-later zero i m names name e h l = refl
 names-later (suc k) i m names name e h l = rw (name-after names name m i e h l, names-later k (suc i) m names name e (omega arith) l)
 
-pub names-set : (k i j : ℕ) (names name : List ℕ) → length name ≡ 19 → j < k → (i + k) * 19 ≤ length names → namesFrom k i (withName names ((i + j) * 19) name) ≡ set (namesFrom k i names) j name
+pub names-set : (k i j : ℕ) (names name : List ℕ) → length name ≡ nameWidth → j < k → (i + k) * nameWidth ≤ length names → namesFrom k i (withName names ((i + j) * nameWidth) name) ≡ set (namesFrom k i names) j name
 unfolding namesFrom
 names-set zero i j names name e h l = absurd (not-suc-le-zero h)
 names-set (suc k) i zero names name e h l =
@@ -160,7 +162,7 @@ nought-at (suc m) (suc j) = nought-at m j
 
 nought-row : (m i : ℕ) → row (replicate m 0) i ≡ vacant
 unfolding vacant
-nought-row m i = row-by (replicate m 0) i (λ k. 0) (λ k h. nought-at m (i * 11 + k))
+nought-row m i = row-by (replicate m 0) i (λ k. 0) (λ k h. nought-at m (i * rowSize + k))
 
 pub rows-cleared : (k i m : ℕ) → rowsFrom k i (replicate m 0) ≡ replicate k vacant
 unfolding rowsFrom vacant
@@ -180,11 +182,11 @@ take-noughts zero m h = refl
 take-noughts (suc n) zero h = absurd (not-suc-le-zero h)
 take-noughts (suc n) (suc m) h = ap (λ (l : List ℕ). 0 ∷ l) (take-noughts n m (le-of-suc-le-suc h))
 
-nought-name : (m i : ℕ) → i * 19 + 19 ≤ m → nameOf (replicate m 0) i ≡ noName
+nought-name : (m i : ℕ) → i * nameWidth + nameWidth ≤ m → nameOf (replicate m 0) i ≡ noName
 unfolding nameOf noName
-nought-name m i h = rw (drop-noughts (i * 19) m) (take-noughts 19 (m - i * 19) (omega arith))
+nought-name m i h = rw (drop-noughts (i * nameWidth) m) (take-noughts nameWidth (m - i * nameWidth) (omega arith))
 
-pub names-cleared : (k i m : ℕ) → (i + k) * 19 ≤ m → namesFrom k i (replicate m 0) ≡ replicate k noName
+pub names-cleared : (k i m : ℕ) → (i + k) * nameWidth ≤ m → namesFrom k i (replicate m 0) ≡ replicate k noName
 unfolding namesFrom
 names-cleared zero i m h = refl
 names-cleared (suc k) i m h = rw (nought-name m i (omega arith), names-cleared k (suc i) m (omega arith))

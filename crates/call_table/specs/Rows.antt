@@ -1,8 +1,9 @@
--- The lent tables: a security's place is eleven numbers from 11 i on, its name 19 bytes from 19 i on. Every value of them has a meaning. Assumes nothing.
+-- The lent tables: a security's place is `rowSize` numbers, its name `nameWidth` bytes. Every value of them has a meaning. Assumes nothing.
 use Prim.Native.Nat.{ℕ, zero, suc, _+_, _*_}
 use mathlib.Core.List.{List, [], _∷_, _++_}
 use lib.ListN.{length, getD, set, take, drop}
-use Rattle.rules.specs.Sizes.{securityPlaces}
+use Rattle.call_table.specs.Sizes.{rowSize}
+use Rattle.rules.specs.Sizes.{securityPlaces, nameWidth}
 use Rattle.rules.specs.declared.Security.{Security}
 use Rattle.rules.specs.declared.Settings.{Settings}
 use Rattle.rules.specs.Day.{Day}
@@ -17,31 +18,31 @@ numbers s = s .unit ∷ s .network ∷ s .market ∷ s .first ∷ s .printed ∷
 
 abbrev pub row : List ℕ → ℕ → Security
 row t i = record {
-  unit = getD t (i * 11 + 0) 0;
-  network = getD t (i * 11 + 1) 0;
-  market = getD t (i * 11 + 2) 0;
-  first = getD t (i * 11 + 3) 0;
-  printed = getD t (i * 11 + 4) 0;
-  high = getD t (i * 11 + 5) 0;
-  low = getD t (i * 11 + 6) 0;
-  last = getD t (i * 11 + 7) 0;
-  trades = getD t (i * 11 + 8) 0;
-  qualified = getD t (i * 11 + 9) 0;
-  primaries = getD t (i * 11 + 10) 0;
+  unit = getD t (i * rowSize + 0) 0;
+  network = getD t (i * rowSize + 1) 0;
+  market = getD t (i * rowSize + 2) 0;
+  first = getD t (i * rowSize + 3) 0;
+  printed = getD t (i * rowSize + 4) 0;
+  high = getD t (i * rowSize + 5) 0;
+  low = getD t (i * rowSize + 6) 0;
+  last = getD t (i * rowSize + 7) 0;
+  trades = getD t (i * rowSize + 8) 0;
+  qualified = getD t (i * rowSize + 9) 0;
+  primaries = getD t (i * rowSize + 10) 0;
 }
 
 abbrev pub withRow : List ℕ → ℕ → Security → List ℕ
-withRow t i s = storedFrom t (i * 11) 0 (numbers s)
+withRow t i s = storedFrom t (i * rowSize) 0 (numbers s)
 
 -- the name at place i
 unfoldable pub nameOf : List ℕ → ℕ → List ℕ
-nameOf names i = take 19 (drop (i * 19) names)
+nameOf names i = take nameWidth (drop (i * nameWidth) names)
 
 -- a text put into the names, from `at` on
 unfoldable pub withName : List ℕ → ℕ → List ℕ → List ℕ
 withName names at name = take at names ++ (name ++ drop (at + length name) names)
 
--- ---- what the tables hold: 512 places
+-- ---- what the tables hold
 
 unfoldable pub rowsFrom : ℕ → ℕ → List ℕ → List Security
 rowsFrom zero i t = []

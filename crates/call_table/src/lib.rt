@@ -1,4 +1,4 @@
-// The lent tables of a day: what PLACES securities have by numbers, eleven a place, and their names, 19 columns a place.
+// The lent tables of a day: what PLACES securities have by numbers, a row a place, and their names.
 use rules::NAME_WIDTH;
 use rules::PLACES;
 use rules::Security;
@@ -62,7 +62,7 @@ pub fn store(table: &mut Table, i: usize, s: Security)
     table[b + 10] = s.primaries;
 }
 
-// The name at a place, put there: its 19 columns from 19 i on.
+// A name put there, from `at` on.
 fn put_name(names: &mut [u8], at: usize, name: &[u8])
     requires { ⌜ at + length (now name) ≤ length (now names) ⌝ }
     ensures { λ _. ⌜ now (names .exit) ≡ withName (now (names .entry)) at (now (name .entry)) ⌝ }
