@@ -63,19 +63,19 @@ name-none table names name i x e h = let q : 512 - i ≡ 0 = omega arith in rw (
 -- ---- a trade
 
 pub planned : (st : Settings) (s : Security) (t : Trade) (value whole : ℕ) (ranges lasts rule a b c d : Bool) (e : Security)
+    → e ≡ afterBy s (t .market) value b ranges lasts
+    → d ≡ showsBy st s (t .market) (t .side .volume) lasts rule
+    → c ≡ fullBy st s (t .market) whole
+    → b ≡ printsBy st s (t .market) (t .side .volume) value ranges lasts rule
+    → a ≡ showsTemporary s
     → value ≡ units (t .side .price)
     → whole ≡ wholePart (t .side .price)
     → ranges ≡ forRange (t .side .letters)
     → lasts ≡ forLast (t .side .letters)
     → rule ≡ hasRule (t .side .letters)
-    → a ≡ showsTemporary s
-    → b ≡ printsBy st s (t .market) (t .side .volume) value ranges lasts rule
-    → c ≡ fullBy st s (t .market) whole
-    → d ≡ showsBy st s (t .market) (t .side .volume) lasts rule
-    → e ≡ afterBy s (t .market) value b ranges lasts
-    → (record { place = t .security - 1; side = t .side; network = s .network; unit = s .unit; temporary = a; prints = b; full = c; shows = d; after = e }) ≡ printPlan st s t
+    → (record { place = t .security - 1; side = t .side; network = s .issue .network; unit = s .issue .unit; temporary = a; prints = b; full = c; shows = d; after = e }) ≡ printPlan st s t
 unfolding printPlan
-planned st s t value whole ranges lasts rule a b c d e v w ra la ru p q r u o =
+planned st s t value whole ranges lasts rule a b c d e o u r q p v w ra la ru =
     let x = t .side in
     let k = side-prints st s (t .market) x value ranges lasts rule b v ra la ru q in
     rw (p, side-after st s (t .market) x value b ranges lasts e v k ra la o, k, side-full st s (t .market) x whole c w r, side-shows st s (t .market) x lasts rule d la ru u)
@@ -89,7 +89,7 @@ prints st s t p e = ap Print e
 -- ---- a cancel, an error, a correction
 
 pub planned-cancel : (error : Bool) (st : Settings) (s : Security) (t : Trade) (a b : Bool) → a ≡ cancelFull st s (t .side) → b ≡ cancelShows st (t .side)
-    → (record { error = error; place = t .security - 1; side = t .side; network = s .network; unit = s .unit; full = a; shows = b }) ≡ cancelOf error st s t
+    → (record { error = error; place = t .security - 1; side = t .side; network = s .issue .network; unit = s .issue .unit; full = a; shows = b }) ≡ cancelOf error st s t
 unfolding cancelOf
 planned-cancel error st s t a b p q = rw (p, q)
 
@@ -100,7 +100,7 @@ pub cancels : (error : Bool) (st : Settings) (s : Security) (t : Trade) (p : Can
 cancels error st s t p e = ap Cancel e
 
 pub planned-correction : (st : Settings) (s : Security) (c : Correction) (a b d : Bool) (e : Security) → a ≡ printsCorrection st s (c .original) (c .correcting) → b ≡ correctionFull st s (c .original) (c .correcting) → d ≡ correctionShows st (c .original) (c .correcting) → e ≡ afterCorrection s (c .correcting)
-    → (record { place = c .security - 1; original = c .original; correcting = c .correcting; network = s .network; unit = s .unit; prints = a; full = b; shows = d; after = e }) ≡ correctionOf st s c
+    → (record { place = c .security - 1; original = c .original; correcting = c .correcting; network = s .issue .network; unit = s .issue .unit; prints = a; full = b; shows = d; after = e }) ≡ correctionOf st s c
 unfolding correctionOf
 planned-correction st s c a b d e p q r u = rw (p, q, r, u)
 

@@ -47,8 +47,8 @@ unfoldable pub printPlan : Settings → Security → Trade → TradePlan
 printPlan st s t = record {
   place = t .security - 1;
   side = t .side;
-  network = s .network;
-  unit = s .unit;
+  network = s .issue .network;
+  unit = s .issue .unit;
   temporary = showsTemporary s;
   prints = printsTrade st s (t .market) (t .side);
   full = tradeFull st s (t .market) (t .side);
@@ -60,7 +60,7 @@ printPlan st s t = record {
 unfoldable pub unlessStopped : Security → Trade → Plan → Plan
 unlessStopped s t p =
     pick (not (isEntered s)) (Stop NotEntered)
-    (pick (not (t .lawful && onNetwork (s .network) (t .side .letters))) (Stop Conditions)
+    (pick (not (t .lawful && onNetwork (s .issue .network) (t .side .letters))) (Stop Conditions)
     (pick (not (t .matched)) (Stop Unmatched) p))
 
 unfoldable pub tradePlan : Settings → Security → Trade → Plan
@@ -72,8 +72,8 @@ cancelOf error st s t = record {
   error = error;
   place = t .security - 1;
   side = t .side;
-  network = s .network;
-  unit = s .unit;
+  network = s .issue .network;
+  unit = s .issue .unit;
   full = cancelFull st s (t .side);
   shows = cancelShows st (t .side);
 }
@@ -87,8 +87,8 @@ correctionOf st s c = record {
   place = c .security - 1;
   original = c .original;
   correcting = c .correcting;
-  network = s .network;
-  unit = s .unit;
+  network = s .issue .network;
+  unit = s .issue .unit;
   prints = printsCorrection st s (c .original) (c .correcting);
   full = correctionFull st s (c .original) (c .correcting);
   shows = correctionShows st (c .original) (c .correcting);
@@ -98,7 +98,7 @@ correctionOf st s c = record {
 unfoldable pub correctionPlan : Settings → Security → Correction → Plan
 correctionPlan st s c =
     pick (not (isEntered s)) (Stop NotEntered)
-    (pick (not (c .lawful && (onNetwork (s .network) (c .original .letters) && onNetwork (s .network) (c .correcting .letters)))) (Stop Conditions)
+    (pick (not (c .lawful && (onNetwork (s .issue .network) (c .original .letters) && onNetwork (s .issue .network) (c .correcting .letters)))) (Stop Conditions)
     (pick (not (c .matched)) (Stop Unmatched)
     (Correct (correctionOf st s c))))
 

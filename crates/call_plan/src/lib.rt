@@ -3,11 +3,15 @@
 use call_table::Names;
 use call_table::Table;
 use rules::Correction;
+use rules::Counts;
+use rules::Issue;
 use rules::Line;
 use rules::Listing;
 use rules::Mode;
 use rules::NAME_WIDTH;
 use rules::PLACES;
+use rules::Printed;
+use rules::Range;
 use rules::Refusal;
 use rules::Security;
 use rules::Settings;
@@ -154,21 +158,28 @@ fn is_name_taken(table: &Table, names: &Names, name: &[u8]) -> bool
     false
 }
 
+// A security before its first trade.
 fn entered_as(l: Listing) -> Security
     ensures { λ r. ⌜ r ≡ entered l ⌝ }
 {
     Security {
-        unit: l.unit,
-        network: l.network,
-        market: l.market,
-        first: l.first,
-        printed: 0,
-        high: 0,
-        low: 0,
-        last: 0,
-        trades: 0,
-        qualified: 0,
-        primaries: 0,
+        issue: Issue {
+            unit: l.unit,
+            network: l.network,
+            market: l.market,
+            first: l.first,
+        },
+        printed: Printed { price: 0 },
+        range: Range {
+            high: 0,
+            low: 0,
+            last: 0,
+        },
+        counts: Counts {
+            trades: 0,
+            qualified: 0,
+            primaries: 0,
+        },
     }
 }
 
@@ -206,8 +217,8 @@ pub fn print_plan(st: Settings, s: Security, t: Trade) -> TradePlan
     TradePlan {
         place: (t.security - 1) as usize,
         side: x,
-        network: s.network,
-        unit: s.unit,
+        network: s.issue.network,
+        unit: s.issue.unit,
         temporary: decide_letters::shows_temporary(s),
         prints: prints,
         full: decide_trade::full_by(st, s, t.market, whole),
@@ -217,14 +228,14 @@ pub fn print_plan(st: Settings, s: Security, t: Trade) -> TradePlan
 }
 
 pub fn is_lawful(s: Security, t: Trade) -> bool
-    ensures { λ r. ⌜ r ≡ (t .lawful && onNetwork (s .network) (t .side .letters)) ⌝ }
+    ensures { λ r. ⌜ r ≡ (t .lawful && onNetwork (s .issue .network) (t .side .letters)) ⌝ }
 {
     let x = t.side;
     let letters = x.letters;
     if !t.lawful {
         return false;
     }
-    decide_letters::on_network(s.network, letters)
+    decide_letters::on_network(s.issue.network, letters)
 }
 
 fn trade_plan(st: Settings, s: Security, t: Trade) -> Plan
@@ -261,8 +272,8 @@ fn cancel_of(error: bool, st: Settings, s: Security, t: Trade) -> CancelPlan
         error: error,
         place: (t.security - 1) as usize,
         side: x,
-        network: s.network,
-        unit: s.unit,
+        network: s.issue.network,
+        unit: s.issue.unit,
         full: decide_correction::cancel_full(st, s, x),
         shows: decide_correction::cancel_shows(st, x),
     }
@@ -303,8 +314,8 @@ fn correction_of(st: Settings, s: Security, c: Correction) -> CorrectionPlan
         place: (c.security - 1) as usize,
         original: x,
         correcting: y,
-        network: s.network,
-        unit: s.unit,
+        network: s.issue.network,
+        unit: s.issue.unit,
         prints: decide_correction::prints_correction(st, s, x, y),
         full: decide_correction::correction_full(st, s, x, y),
         shows: decide_correction::correction_shows(st, x, y),
@@ -314,7 +325,7 @@ fn correction_of(st: Settings, s: Security, c: Correction) -> CorrectionPlan
 
 // Letters lawful by themselves, and on the security's network, on both sides.
 fn are_lawful(s: Security, c: Correction) -> bool
-    ensures { λ r. ⌜ r ≡ (c .lawful && (onNetwork (s .network) (c .original .letters) && onNetwork (s .network) (c .correcting .letters))) ⌝ }
+    ensures { λ r. ⌜ r ≡ (c .lawful && (onNetwork (s .issue .network) (c .original .letters) && onNetwork (s .issue .network) (c .correcting .letters))) ⌝ }
 {
     let x = c.original;
     let y = c.correcting;
@@ -323,10 +334,10 @@ fn are_lawful(s: Security, c: Correction) -> bool
     if !c.lawful {
         return false;
     }
-    if !decide_letters::on_network(s.network, letters) {
+    if !decide_letters::on_network(s.issue.network, letters) {
         return false;
     }
-    decide_letters::on_network(s.network, others)
+    decide_letters::on_network(s.issue.network, others)
 }
 
 fn correction_plan(st: Settings, s: Security, c: Correction) -> Plan

@@ -28,9 +28,9 @@ use Rattle.print_side.specs.Columns.{SideColumns}
 use Rattle.call_print.specs.Print.{SoundPrint, SoundCancel, SoundCorrect, SoundPlan}
 use Rattle.call_print.proofs.Columns.{SidesStand, sides-stand}
 
-pub has-unit : (s : Security) → not (isEntered s) ≡ false → 1 ≤ s .unit
+pub has-unit : (s : Security) → not (isEntered s) ≡ false → 1 ≤ s .issue .unit
 unfolding isEntered
-has-unit s h = let z = eqb-false (s .unit) 0 (not-true (eqb (s .unit) 0) (not-false (not (eqb (s .unit) 0)) h)) in nonzero (s .unit) z
+has-unit s h = let z = eqb-false (s .issue .unit) 0 (not-true (eqb (s .issue .unit) 0) (not-false (not (eqb (s .issue .unit) 0)) h)) in nonzero (s .issue .unit) z
 
 module _ (st : Settings) (table names line : List ℕ) where
   date-sound : (n : ℕ) → SoundPlan line (datePlan st n)
@@ -44,7 +44,7 @@ module _ (st : Settings) (table names line : List ℕ) where
       pick-cases (SoundPlan line) _ _ _ (λ z. tt) (λ f.
       pick-cases (SoundPlan line) _ _ _ (λ z. tt) (λ g. (omega (arith, h .low, h .high), k))))
 
-  stops-sound : (s : Security) (t : Trade) (p : Plan) → (1 ≤ s .unit → SoundPlan line p) → SoundPlan line (unlessStopped s t p)
+  stops-sound : (s : Security) (t : Trade) (p : Plan) → (1 ≤ s .issue .unit → SoundPlan line p) → SoundPlan line (unlessStopped s t p)
   unfolding unlessStopped SoundPlan
   stops-sound s t p h =
       pick-cases (SoundPlan line) _ _ _ (λ z. tt) (λ e.

@@ -1,3 +1,4 @@
 pub mod Places
 pub mod Held
 pub mod Slots
+pub mod Parts

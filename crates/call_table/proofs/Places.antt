@@ -10,14 +10,14 @@ use lib.Seq.{getD-set-same, getD-set-other, take-all, drop-drop, take-append-le,
 use Rattle.text.specs.Put.{put, Written}
 use Rattle.rules.specs.declared.Security.{Security}
 use Rattle.rules.specs.Day.{vacant, noName}
-use Rattle.call_table.specs.Rows.{storedFrom, numbers, row, withRow, nameOf, withName, rowsFrom, namesFrom}
+use Rattle.call_table.specs.Rows.{storedFrom, issueNumbers, printedNumbers, rangeNumbers, countsNumbers, row, withRow, nameOf, withName, rowsFrom, namesFrom}
 use Rattle.text.proofs.Parts.{take-within}
 use Rattle.rules.specs.Sizes.{nameWidth}
-use Rattle.call_table.specs.Sizes.{rowSize}
+use Rattle.call_table.specs.Sizes.{issueAt, printedAt, rangeAt, countsAt, rowSize}
 
 -- ---- numbers stored one after the other
 
-pub length-stored : (vs t : List ℕ) (b n : ℕ) → length (storedFrom t b n vs) ≡ length t
+length-stored : (vs t : List ℕ) (b n : ℕ) → length (storedFrom t b n vs) ≡ length t
 length-stored [] t b n = refl
 length-stored (v ∷ vs) t b n = length-stored vs (set t (b + n) v) b (suc n) ∙ length-set t (b + n) v
 
@@ -38,34 +38,71 @@ within (v ∷ vs) t b n (suc k) h l =
     let e : b + (n + suc k) ≡ b + (suc n + k) = omega arith in
     rw e (within vs (set t (b + n) v) b (suc n) k (le-of-suc-le-suc h) (rw length-set (omega arith)))
 
--- a row is its eleven numbers
-row-by : (t : List ℕ) (i : ℕ) (f : ℕ → ℕ) → ((k : ℕ) → k < rowSize → getD t (i * rowSize + k) 0 ≡ f k) → row t i ≡ record { unit = f 0; network = f 1; market = f 2; first = f 3; printed = f 4; high = f 5; low = f 6; last = f 7; trades = f 8; qualified = f 9; primaries = f 10 }
-row-by t i f at = λ x. record {
-  unit = at 0 (omega arith) x;
-  network = at 1 (omega arith) x;
-  market = at 2 (omega arith) x;
-  first = at 3 (omega arith) x;
-  printed = at 4 (omega arith) x;
-  high = at 5 (omega arith) x;
-  low = at 6 (omega arith) x;
-  last = at 7 (omega arith) x;
-  trades = at 8 (omega arith) x;
-  qualified = at 9 (omega arith) x;
-  primaries = at 10 (omega arith) x;
-}
+-- from b + m on is m further from b on
+stored-shift : (vs t : List ℕ) (b m n : ℕ) → storedFrom t (b + m) n vs ≡ storedFrom t b (m + n) vs
+stored-shift [] t b m n = refl
+stored-shift (v ∷ vs) t b m n =
+    let e : b + m + n ≡ b + (m + n) = omega arith in
+    let f : m + suc n ≡ suc (m + n) = omega arith in
+    stored-shift vs (set t (b + m + n) v) b m (suc n) ∙ ap (λ (k : ℕ). storedFrom (set t (b + m + n) v) b k vs) f ∙ ap (λ (k : ℕ). storedFrom (set t k v) b (suc (m + n)) vs) e
+
+-- a row is its numbers, those of each part from where it begins
+numbers : Security → List ℕ
+numbers s = issueNumbers (s .issue) ++ (printedNumbers (s .printed) ++ (rangeNumbers (s .range) ++ countsNumbers (s .counts)))
+
+stored-row : (t : List ℕ) (i : ℕ) (s : Security) → withRow t i s ≡ storedFrom t (i * rowSize) 0 (numbers s)
+unfolding numbers
+stored-row t i s =
+    let b = i * rowSize in
+    let t₁ = storedFrom t (b + issueAt) 0 (issueNumbers (s .issue)) in
+    let t₂ = storedFrom t₁ (b + printedAt) 0 (printedNumbers (s .printed)) in
+    let t₃ = storedFrom t₂ (b + rangeAt) 0 (rangeNumbers (s .range)) in
+    stored-shift (countsNumbers (s .counts)) t₃ b countsAt 0
+    ∙ ap (λ (u : List ℕ). storedFrom u b countsAt (countsNumbers (s .counts)))
+    (stored-shift (rangeNumbers (s .range)) t₂ b rangeAt 0
+    ∙ ap (λ (u : List ℕ). storedFrom u b rangeAt (rangeNumbers (s .range)))
+    (stored-shift (printedNumbers (s .printed)) t₁ b printedAt 0
+    ∙ ap (λ (u : List ℕ). storedFrom u b printedAt (printedNumbers (s .printed)))
+    (stored-shift (issueNumbers (s .issue)) t b issueAt 0)))
+
+pub length-row : (t : List ℕ) (i : ℕ) (s : Security) → length (withRow t i s) ≡ length t
+length-row t i s = ap length (stored-row t i s) ∙ length-stored (numbers s) t (i * rowSize) 0
+
+module _ (t : List ℕ) (i : ℕ) (f : ℕ → ℕ) (at : (k : ℕ) → k < rowSize → getD t (i * rowSize + k) 0 ≡ f k) where
+  number-at : (m n : ℕ) → m + n < rowSize → getD t (i * rowSize + m + n) 0 ≡ f (m + n)
+  number-at m n h = let e : i * rowSize + m + n ≡ i * rowSize + (m + n) = omega arith in ap (λ (k : ℕ). getD t k 0) e ∙ at (m + n) h
+
+  row-by : row t i ≡ record {
+    issue = record { unit = f 0; network = f 1; market = f 2; first = f 3 };
+    printed = record { price = f printedAt };
+    range = record { high = f rangeAt; low = f (rangeAt + 1); last = f (rangeAt + 2) };
+    counts = record { trades = f countsAt; qualified = f (countsAt + 1); primaries = f (countsAt + 2) };
+  }
+  row-by = λ x. record {
+    issue = record { unit = number-at issueAt 0 (omega arith) x; network = number-at issueAt 1 (omega arith) x; market = number-at issueAt 2 (omega arith) x; first = number-at issueAt 3 (omega arith) x };
+    printed = record { price = number-at printedAt 0 (omega arith) x };
+    range = record { high = number-at rangeAt 0 (omega arith) x; low = number-at rangeAt 1 (omega arith) x; last = number-at rangeAt 2 (omega arith) x };
+    counts = record { trades = number-at countsAt 0 (omega arith) x; qualified = number-at countsAt 1 (omega arith) x; primaries = number-at countsAt 2 (omega arith) x };
+  }
 
 stored-at : (t : List ℕ) (i : ℕ) (s : Security) → i * rowSize + rowSize ≤ length t → (k : ℕ) → k < rowSize → getD (withRow t i s) (i * rowSize + k) 0 ≡ getD (numbers s) k 0
+unfolding numbers
 stored-at t i s l k h =
     let e : i * rowSize + (0 + k) ≡ i * rowSize + k = omega arith in
-    rw e at (within (numbers s) t (i * rowSize) 0 k h (omega arith))
+    ap (λ (u : List ℕ). getD u (i * rowSize + k) 0) (stored-row t i s) ∙ rw e at (within (numbers s) t (i * rowSize) 0 k h (omega arith))
 
 pub same-row : (t : List ℕ) (i : ℕ) (s : Security) → i * rowSize + rowSize ≤ length t → row (withRow t i s) i ≡ s
+unfolding numbers
 same-row t i s l = row-by (withRow t i s) i (λ k. getD (numbers s) k 0) (stored-at t i s l)
 
 pub other-row : (t : List ℕ) (i j : ℕ) (s : Security) → (i < j) ⊎ (j < i) → row (withRow t i s) j ≡ row t j
+unfolding numbers
 other-row t i j s d =
     row-by (withRow t i s) j (λ k. getD t (j * rowSize + k) 0)
-    (λ k h. ⊎-elim (λ lt. above (numbers s) t (i * rowSize) 0 (j * rowSize + k) (omega arith)) (λ gt. below (numbers s) t (i * rowSize) 0 (j * rowSize + k) (omega arith)) d)
+    (λ k h.
+    ap (λ (u : List ℕ). getD u (j * rowSize + k) 0) (stored-row t i s)
+    ∙ ⊎-elim (λ lt. above (numbers s) t (i * rowSize) 0 (j * rowSize + k) (omega arith)) (λ gt. below (numbers s) t (i * rowSize) 0 (j * rowSize + k) (omega arith)) d)
+    ∙ sym (row-by t j (λ k. getD t (j * rowSize + k) 0) (λ k h. refl))
 
 -- ---- the rows as a list
 

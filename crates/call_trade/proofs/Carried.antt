@@ -90,7 +90,7 @@ module _ (st : Settings) (s : Security) (names : List ℕ) (place market : ℕ) 
     whole-is = ap (λ (z : ℕ). z / 100000000) (d .value-is) ∙ whole-units (x .price .n) (x .price .d) (c .sound .decimals)
 
     abbrev side : List ℕ
-    side = sideText (nameText temporary name) (s .network) (s .unit) full shows x
+    side = sideText (nameText temporary name) (s .issue .network) (s .issue .unit) full shows x
 
     text-is : text ≡ side
     unfolding tradeText opt
@@ -146,7 +146,7 @@ unmarked part t marked c e m = no-letters part (sideIn t) c (not-false (eqb (get
 
 -- ---- the network, then the room
 
-module _ (st : Settings) (s : Security) (name : List ℕ) (place market : ℕ) (x : Side) (table tape : List ℕ) (q : Bool) (e : q ≡ onNetwork (s .network) (x .letters)) where
+module _ (st : Settings) (s : Security) (name : List ℕ) (place market : ℕ) (x : Side) (table tape : List ℕ) (q : Bool) (e : q ≡ onNetwork (s .issue .network) (x .letters)) where
   pub other-network : (a : TradeAnswer) → not q ≡ true → a ≡ untakenOf → Carried st s name place market x table tape table tape a
   unfolding untakenOf
   other-network a h u = rw u (record {

@@ -22,7 +22,7 @@ use Rattle.call_trade.specs.declared.TradeAnswer.{TradeAnswer}
 
 -- the print of a trade of security s, under the columns of its name
 unfoldable pub tradeText : Settings → Security → List ℕ → ℕ → Side → List ℕ
-tradeText st s name market x = opt (printsTrade st s market x) (sideText (nameText (showsTemporary s) name) (s .network) (s .unit) (tradeFull st s market x) (tradeShows st s market x) x)
+tradeText st s name market x = opt (printsTrade st s market x) (sideText (nameText (showsTemporary s) name) (s .issue .network) (s .issue .unit) (tradeFull st s market x) (tradeShows st s market x) x)
 
 unfoldable pub untakenOf : TradeAnswer
 untakenOf = record { taken = false; length = 0 }
@@ -51,4 +51,4 @@ Fitted st s name place market x table tape = Done (leb (length (tradeText st s n
 -- if J and G are on the right network, and then if it fits
 abbrev pub Carried : Settings → Security → List ℕ → ℕ → ℕ → Side → List ℕ → List ℕ → List ℕ → List ℕ → TradeAnswer → Type 0
 Carried st s name place market x table tape =
-    Done (onNetwork (s .network) (x .letters) && leb (length (tradeText st s name market x)) (length tape)) st s name place market x table tape
+    Done (onNetwork (s .issue .network) (x .letters) && leb (length (tradeText st s name market x)) (length tape)) st s name place market x table tape

@@ -119,7 +119,7 @@ fn print_out(
     rule: bool,
     after: Security,
 ) -> TradeAnswer
-    requires { ⌜ (place < securityPlaces) × (1 ≤ s .unit) × SideColumns (now part) (sideIn t) × Decided st s (t .market) (sideIn t) value lasts rule after ⌝ }
+    requires { ⌜ (place < securityPlaces) × (1 ≤ s .issue .unit) × SideColumns (now part) (sideIn t) × Decided st s (t .market) (sideIn t) value lasts rule after ⌝ }
     ensures { λ r. ⌜ Fitted st s (nameOf (now (names .entry)) place) place (t .market) (sideIn t) (now (table .entry)) (now (tape .entry)) (now (table .exit)) (now (tape .exit)) r ⌝ }
 {
     let full = decide_trade::full_by(st, s, t.market, value / 100000000);
@@ -138,8 +138,8 @@ fn print_out(
         tape.len(),
         name,
         temporary,
-        s.network,
-        s.unit,
+        s.issue.network,
+        s.issue.unit,
         full,
         shows,
         x,
@@ -151,8 +151,8 @@ fn print_out(
         tape,
         name,
         temporary,
-        s.network,
-        s.unit,
+        s.issue.network,
+        s.issue.unit,
         full,
         shows,
         x,
@@ -175,7 +175,7 @@ fn decide(
     tape: &mut [u8],
     marked: bool,
 ) -> TradeAnswer
-    requires { ⌜ (place < securityPlaces) × (1 ≤ s .unit) × SideColumns (now part) (sideIn t) × (marked ≡ false → t .letters ≡ noLetters) ⌝ }
+    requires { ⌜ (place < securityPlaces) × (1 ≤ s .issue .unit) × SideColumns (now part) (sideIn t) × (marked ≡ false → t .letters ≡ noLetters) ⌝ }
     ensures { λ r. ⌜ Fitted st s (nameOf (now (names .entry)) place) place (t .market) (sideIn t) (now (table .entry)) (now (tape .entry)) (now (table .exit)) (now (tape .exit)) r ⌝ }
 {
     let letters = t.letters;
@@ -220,12 +220,12 @@ pub fn carry_out(
     part: &[u8],
     tape: &mut [u8],
 ) -> TradeAnswer
-    requires { ⌜ (place < securityPlaces) × (1 ≤ s .unit) × SideColumns (now part) (sideIn t) ⌝ }
+    requires { ⌜ (place < securityPlaces) × (1 ≤ s .issue .unit) × SideColumns (now part) (sideIn t) ⌝ }
     ensures { λ r. ⌜ Carried st s (nameOf (now (names .entry)) place) place (t .market) (sideIn t) (now (table .entry)) (now (tape .entry)) (now (table .exit)) (now (tape .exit)) r ⌝ }
 {
     let marked = part[24] != b' ';
     let letters = t.letters;
-    if !is_on_network(marked, s.network, letters) {
+    if !is_on_network(marked, s.issue.network, letters) {
         return untaken();
     }
     decide(st, table, names, place, s, t, part, tape, marked)

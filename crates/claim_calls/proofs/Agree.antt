@@ -48,18 +48,18 @@ settled st table names = refl
 
 -- a trade's print by what the day holds of its security
 by-parts : (day : Day) (t : Trade) (st : Settings) (s : Security) (n : List ℕ) → day .settings ≡ st → securityAt day (t .security) ≡ s → nameAt day (t .security) ≡ n
-    → opt (printsTrade st s (t .market) (t .side)) (sideText (nameText (showsTemporary s) n) (s .network) (s .unit) (tradeFull st s (t .market) (t .side)) (tradeShows st s (t .market) (t .side)) (t .side)) ≡ tradePrint day t
+    → opt (printsTrade st s (t .market) (t .side)) (sideText (nameText (showsTemporary s) n) (s .issue .network) (s .issue .unit) (tradeFull st s (t .market) (t .side)) (tradeShows st s (t .market) (t .side)) (t .side)) ≡ tradePrint day t
 unfolding tradePrint
 by-parts day t st s n e f g = rw (← e, ← f, ← g)
 
 -- and of a cancel, an error, a correction
 cancel-parts : (opening : List ℕ) (day : Day) (t : Trade) (st : Settings) (s : Security) (n : List ℕ) → day .settings ≡ st → securityAt day (t .security) ≡ s → nameAt day (t .security) ≡ n
-    → cancelText opening (nameText false n) (s .network) (s .unit) (cancelFull st s (t .side)) (cancelShows st (t .side)) (t .side) ≡ cancelPrint opening day t
+    → cancelText opening (nameText false n) (s .issue .network) (s .issue .unit) (cancelFull st s (t .side)) (cancelShows st (t .side)) (t .side) ≡ cancelPrint opening day t
 unfolding cancelPrint
 cancel-parts opening day t st s n e f g = rw (← e, ← f, ← g)
 
 correction-parts : (day : Day) (c : Correction) (st : Settings) (s : Security) (n : List ℕ) → day .settings ≡ st → securityAt day (c .security) ≡ s → nameAt day (c .security) ≡ n
-    → opt (printsCorrection st s (c .original) (c .correcting)) (correctionText (nameText false n) (s .network) (s .unit) (correctionFull st s (c .original) (c .correcting)) (correctionShows st (c .original) (c .correcting)) (c .original) (c .correcting)) ≡ correctionPrint day c
+    → opt (printsCorrection st s (c .original) (c .correcting)) (correctionText (nameText false n) (s .issue .network) (s .issue .unit) (correctionFull st s (c .original) (c .correcting)) (correctionShows st (c .original) (c .correcting)) (c .original) (c .correcting)) ≡ correctionPrint day c
 unfolding correctionPrint
 correction-parts day c st s n e f g = rw (← e, ← f, ← g)
 
@@ -162,7 +162,7 @@ module _ (st : Settings) (table names line : List ℕ) (room : ℕ) where
       unfolding tradeRefusal refuse unlessStopped
       unless-stopped text after p a =
           asks _ _ _ _ _ _ _ _ (ap (λ (x : Security). not (isEntered x)) stands) (λ e. stops _ _ NotEntered) (λ e.
-          asks _ _ _ _ _ _ _ _ (ap (λ (x : Security). not (t .lawful && onNetwork (x .network) (t .side .letters))) stands) (λ f. stops _ _ Conditions) (λ f.
+          asks _ _ _ _ _ _ _ _ (ap (λ (x : Security). not (t .lawful && onNetwork (x .issue .network) (t .side .letters))) stands) (λ f. stops _ _ Conditions) (λ f.
           asks _ _ _ _ _ _ _ _ refl (λ g. stops _ _ Unmatched) (λ g. a)))
 
       same-trade : Same (Traded t)
@@ -204,7 +204,7 @@ module _ (st : Settings) (table names line : List ℕ) (room : ℕ) where
       unfolding stateRefusal correctionRefusal refuse linePlan correctionPlan rules.printOf stopOf
       same-correction =
           asks _ _ _ _ _ _ _ _ (ap (λ (s : Security). not (isEntered s)) stands-corrected) (λ e. stops _ _ NotEntered) (λ e.
-          asks _ _ _ _ _ _ _ _ (ap (λ (s : Security). not (c .lawful && (onNetwork (s .network) (c .original .letters) && onNetwork (s .network) (c .correcting .letters)))) stands-corrected) (λ f. stops _ _ Conditions) (λ f.
+          asks _ _ _ _ _ _ _ _ (ap (λ (s : Security). not (c .lawful && (onNetwork (s .issue .network) (c .original .letters) && onNetwork (s .issue .network) (c .correcting .letters)))) stands-corrected) (λ f. stops _ _ Conditions) (λ f.
           asks _ _ _ _ _ _ _ _ refl (λ g. stops _ _ Unmatched) (λ g. ends (correctionPrint day c) _ (Correct (correctionOf st x c)) refl correction-print held-correction)))
 
 -- ---- every kind

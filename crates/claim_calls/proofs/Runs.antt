@@ -11,8 +11,8 @@ use Rattle.rules.specs.Day.{Day, opened, fresh, tapeOf, after, refusalOf}
 use Rattle.rules.specs.declared.Settings.{Settings}
 use Rattle.rules.proofs.Fields.{name-length}
 use Rattle.call_table.specs.Sizes.{tableSize, namesSize}
-use Rattle.call_table.specs.Rows.{dayOf, withName, numbers}
-use Rattle.call_table.proofs.Places.{length-stored}
+use Rattle.call_table.specs.Rows.{dayOf, withName}
+use Rattle.call_table.proofs.Places.{length-row}
 use Rattle.call_table.proofs.Held.{held-cleared}
 use Rattle.call_plan.specs.declared.Plan.{Plan}
 use Rattle.call_plan.specs.declared.Plan.the-variants.{Stop, Open, Enter, Change, Level, Step, Print, Cancel, Correct}
@@ -36,13 +36,13 @@ table-length : (table : List ℕ) (p : Plan) → length table ≡ tableSize → 
 unfolding tableAfter
 table-length table (Stop r) h = h
 table-length table (Open n) h = refl
-table-length table (Enter i s) h = length-stored (numbers s) table (i * 11) 0 ∙ h
+table-length table (Enter i s) h = length-row table i s ∙ h
 table-length table (Change m) h = h
 table-length table (Level n) h = h
 table-length table (Step n) h = h
-table-length table (Print t) h = length-stored (numbers (t .after)) table (t .place * 11) 0 ∙ h
+table-length table (Print t) h = length-row table (t .place) (t .after) ∙ h
 table-length table (Cancel t) h = h
-table-length table (Correct c) h = length-stored (numbers (c .after)) table (c .place * 11) 0 ∙ h
+table-length table (Correct c) h = length-row table (c .place) (c .after) ∙ h
 
 with-name-length : (names name : List ℕ) (at : ℕ) → at + length name ≤ length names → length (withName names at name) ≡ length names
 unfolding withName

@@ -85,18 +85,18 @@ shown-short p = refl
 
 -- what a price that is not full says of the last printed
 record Short (s : Security) (w : ℕ) : Type 0 where
-  same-tens : w / 10 ≡ dollars (s .printed) / 10
+  same-tens : w / 10 ≡ dollars (s .printed .price) / 10
   some-digit : w % 10 ≡ 0 → ⊥
 
 short-is : (s : Security) (market : ℕ) (x : Side) → fullPrice s market x ≡ false → Short s (wholePart (x .price))
 unfolding fullPrice fullAt trade.tens endsInZero
 short-is s market x h =
     let w = wholePart (x .price) in
-    let a = or-right (eqb (s .printed) 0) _ h in
-    let t = or-left (not (eqb (w / 10) (dollars (s .printed) / 10))) _ a in
-    let b = or-right (not (eqb (w / 10) (dollars (s .printed) / 10))) _ a in
+    let a = or-right (eqb (s .printed .price) 0) _ h in
+    let t = or-left (not (eqb (w / 10) (dollars (s .printed .price) / 10))) _ a in
+    let b = or-right (not (eqb (w / 10) (dollars (s .printed .price) / 10))) _ a in
     let z = or-left (eqb (w % 10) 0) _ b in
-    record { same-tens = eqb-true (w / 10) (dollars (s .printed) / 10) (not-false (eqb (w / 10) (dollars (s .printed) / 10)) t); some-digit = eqb-false (w % 10) 0 z }
+    record { same-tens = eqb-true (w / 10) (dollars (s .printed .price) / 10) (not-false (eqb (w / 10) (dollars (s .printed .price) / 10)) t); some-digit = eqb-false (w % 10) 0 z }
 
 between-yes : (n : ℕ) → 1 ≤ n → n ≤ 9 → between 1 9 n ≡ true
 unfolding between
@@ -114,9 +114,9 @@ module _ (s : Security) (x : Side) (h : LawfulSide x) where
   w = wholePart p
 
   abbrev Decoded : Bool → ℕ → Type 0
-  Decoded m price = pick (not m && (between 1 9 (dollars price) && leb 10 (dollars (s .printed)))) (trade.tens (dollars (s .printed)) * 10 * 100000000 + price) price ≡ units p
+  Decoded m price = pick (not m && (between 1 9 (dollars price) && leb 10 (dollars (s .printed .price)))) (trade.tens (dollars (s .printed .price)) * 10 * 100000000 + price) price ≡ units p
 
-  in-full : (m : Bool) → (not m && (between 1 9 w && leb 10 (dollars (s .printed)))) ≡ false → Decoded m (shownPrice true p)
+  in-full : (m : Bool) → (not m && (between 1 9 w && leb 10 (dollars (s .printed .price)))) ≡ false → Decoded m (shownPrice true p)
   unfolding pick
   in-full m k =
       let e : dollars (shownPrice true p) ≡ w = ap dollars (shown-full p) ∙ dollars-of w (part p) (part-small p (h .decimals)) in
@@ -124,7 +124,7 @@ module _ (s : Security) (x : Side) (h : LawfulSide x) where
 
   in-short : Short s w → Decoded false (shownPrice false p)
   unfolding pick trade.tens
-  in-short k = go (leb 10 (dollars (s .printed))) refl
+  in-short k = go (leb 10 (dollars (s .printed .price))) refl
     where
       e : dollars (shownPrice false p) ≡ w % 10
       e = ap dollars (shown-short p) ∙ dollars-of (w % 10) (part p) (part-small p (h .decimals))
@@ -135,17 +135,17 @@ module _ (s : Security) (x : Side) (h : LawfulSide x) where
       whole : units p ≡ w * 100000000 + part p
       whole = sym (full-price p (h .decimals)) ∙ shown-full p
 
-      go : (b : Bool) → leb 10 (dollars (s .printed)) ≡ b → Decoded false (shownPrice false p)
+      go : (b : Bool) → leb 10 (dollars (s .printed .price)) ≡ b → Decoded false (shownPrice false p)
       go true q = rw (e, digit, q) (rw (shown-short p) (omega (arith, k .same-tens, whole)))
-      go false q = rw (e, digit, q) (rw (shown-short p) (omega (arith, k .same-tens, whole, leb-false 10 (dollars (s .printed)) q)))
+      go false q = rw (e, digit, q) (rw (shown-short p) (omega (arith, k .same-tens, whole, leb-false 10 (dollars (s .printed .price)) q)))
 
 -- THE PRICE IS THE ONE SHOWN, where the premise holds
-pub price-by : (st : Settings) (s : Security) (market : ℕ) (x : Side) → LawfulSide x → (not (isNormal (st .mode)) && (between 1 9 (wholePart (x .price)) && leb 10 (dollars (s .printed)))) ≡ false
-    → priceBy (st .mode) (s .printed) (shownPrice (tradeFull st s market x) (x .price)) ≡ units (x .price)
+pub price-by : (st : Settings) (s : Security) (market : ℕ) (x : Side) → LawfulSide x → (not (isNormal (st .mode)) && (between 1 9 (wholePart (x .price)) && leb 10 (dollars (s .printed .price)))) ≡ false
+    → priceBy (st .mode) (s .printed .price) (shownPrice (tradeFull st s market x) (x .price)) ≡ units (x .price)
 unfolding priceBy tradeFull
 price-by st s market x h k = go (isNormal (st .mode)) (fullPrice s market x) k (short-is s market x)
   where
-    go : (m f : Bool) → (not m && (between 1 9 (wholePart (x .price)) && leb 10 (dollars (s .printed)))) ≡ false → (f ≡ false → Short s (wholePart (x .price))) → Decoded s x h m (shownPrice (m || f) (x .price))
+    go : (m f : Bool) → (not m && (between 1 9 (wholePart (x .price)) && leb 10 (dollars (s .printed .price)))) ≡ false → (f ≡ false → Short s (wholePart (x .price))) → Decoded s x h m (shownPrice (m || f) (x .price))
     go true f k e = in-full s x h true k
     go false true k e = in-full s x h false k
     go false false k e = in-short s x h (e refl)

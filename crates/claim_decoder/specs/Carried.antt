@@ -19,7 +19,7 @@ pub record Carried : Type 0 where
 
 -- of one security: 0 where none is entered
 unfoldable pub printedOf : Security → ℕ
-printedOf s = pick (isEntered s) (s .printed) 0
+printedOf s = pick (isEntered s) (s .printed .price) 0
 
 unfoldable pub carriedOf : Day → Carried
 carriedOf day = record { mode = day .settings .mode; printed = map printedOf (day .securities) }

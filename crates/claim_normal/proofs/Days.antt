@@ -47,16 +47,16 @@ held-fresh = held-cleared 0
 held-set : (day : Day) (st : Settings) → Invariant day → between 1 100 (st .minimum) ≡ true → Invariant (withSettings day st)
 held-set day st h k = record { securities-are = h .securities-are; names-are = h .names-are; enterable = h .enterable; minimum-set = k }
 
-module _ (day : Day) (h : Invariant day) (i : ℕ) (low : 1 ≤ i) (high : i ≤ 512) (s : Security) (unit-is : s .unit ≡ (securityAt day i) .unit) (network-is : s .network ≡ (securityAt day i) .network) where
+module _ (day : Day) (h : Invariant day) (i : ℕ) (low : 1 ≤ i) (high : i ≤ 512) (s : Security) (unit-is : s .issue .unit ≡ (securityAt day i) .issue .unit) (network-is : s .issue .network ≡ (securityAt day i) .issue .network) where
   Fits : Security → ℕ → Type 0
-  Fits x j = isEntered x ≡ true → Enterable (x .network) (x .unit) (nameAt day j)
+  Fits x j = isEntered x ≡ true → Enterable (x .issue .network) (x .issue .unit) (nameAt day j)
 
   here : (j : ℕ) → 1 ≤ j → j ≤ 512 → j - 1 ≡ i - 1 → Fits s j
   unfolding Fits
   here j a b e q =
       let same : securityAt day i ≡ securityAt day j = ap (λ k. getD (day .securities) k vacant) (sym e) in
-      let u : s .unit ≡ (securityAt day j) .unit = unit-is ∙ ap (λ x. x .unit) same in
-      let n : s .network ≡ (securityAt day j) .network = network-is ∙ ap (λ x. x .network) same in
+      let u : s .issue .unit ≡ (securityAt day j) .issue .unit = unit-is ∙ ap (λ x. x .issue .unit) same in
+      let n : s .issue .network ≡ (securityAt day j) .issue .network = network-is ∙ ap (λ x. x .issue .network) same in
       rw (u, n) (h .enterable j a b (sym (entered-alike s (securityAt day j) u) ∙ q))
 
   changed : (j : ℕ) → 1 ≤ j → j ≤ 512 → Fits (getD (set (day .securities) (i - 1) s) (j - 1) vacant) j
@@ -79,7 +79,7 @@ module _ (day : Day) (h : Invariant day) (line : List ℕ) (a : Lists day line) 
   p = (listingOf line) .number - 1
 
   FitsBy : Security → List ℕ → Type 0
-  FitsBy x n = isEntered x ≡ true → Enterable (x .network) (x .unit) n
+  FitsBy x n = isEntered x ≡ true → Enterable (x .issue .network) (x .issue .unit) n
 
   new-fits : FitsBy (entered (listingOf line)) (nameColumns line)
   unfolding FitsBy entered

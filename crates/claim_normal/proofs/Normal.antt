@@ -139,7 +139,7 @@ module _ (date level minimum : ℕ) (listing : List ℕ) (a : Lists (levelDay da
       go true e = at-place i (eqb-true (i - 1) place e)
       go false e = absurd (elsewhere i (omega (low, high, arith)) (eqb-false (i - 1) place e) h)
 
-  listed-there : (i : ℕ) → There i → Enterable ((securityAt theDay i) .network) ((securityAt theDay i) .unit) (nameAt theDay i)
+  listed-there : (i : ℕ) → There i → Enterable ((securityAt theDay i) .issue .network) ((securityAt theDay i) .issue .unit) (nameAt theDay i)
   unfolding entered
   listed-there i h = rw (h .security-is-it, h .name-is-it) (enterable (levelDay date level minimum) listing a)
 

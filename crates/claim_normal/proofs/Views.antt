@@ -169,7 +169,7 @@ module _ (day : Day) (held : Invariant day) (normal : day .settings .mode ≡ No
     abbrev s : Security
     s = securityAt day (t .security)
 
-    trade-text : printOf day (Traded t) ≡ sideText (nameText (showsTemporary s) (nameAt day (t .security))) (s .network) (s .unit) true true (t .side)
+    trade-text : printOf day (Traded t) ≡ sideText (nameText (showsTemporary s) (nameAt day (t .security))) (s .issue .network) (s .issue .unit) true true (t .side)
     unfolding printOf tradePrint opt
     trade-text = rw (prints-trade, trade-full, trade-shows)
 
@@ -185,7 +185,7 @@ module _ (day : Day) (held : Invariant day) (normal : day .settings .mode ≡ No
     unfolding tradeFact readFact shownVolume pick
     trade-told = rw is-normal
 
-    cancel-text : (opening : List ℕ) → cancelPrint opening day t ≡ cancelText opening (nameText false (nameAt day (t .security))) (s .network) (s .unit) true true (t .side)
+    cancel-text : (opening : List ℕ) → cancelPrint opening day t ≡ cancelText opening (nameText false (nameAt day (t .security))) (s .issue .network) (s .issue .unit) true true (t .side)
     unfolding cancelPrint
     cancel-text opening = rw (cancel-full, cancel-shows)
 
@@ -197,7 +197,7 @@ module _ (day : Day) (held : Invariant day) (normal : day .settings .mode ≡ No
     abbrev z : Security
     z = securityAt day (c .security)
 
-    correction-text : printOf day (Corrected c) ≡ correctionText (nameText false (nameAt day (c .security))) (z .network) (z .unit) true true (c .original) (c .correcting)
+    correction-text : printOf day (Corrected c) ≡ correctionText (nameText false (nameAt day (c .security))) (z .issue .network) (z .issue .unit) true true (c .original) (c .correcting)
     unfolding printOf correctionPrint opt
     correction-text = rw (prints-correction, correction-full, correction-shows)
 
@@ -212,8 +212,8 @@ module _ (day : Day) (held : Invariant day) (normal : day .settings .mode ≡ No
   -- ---- what an accepted T, X, E or C line owes
 
   record Sides (t : Trade) : Type 0 where
-    is-there : Enterable ((securityAt day (t .security)) .network) ((securityAt day (t .security)) .unit) (nameAt day (t .security))
-    shows : Showable ((securityAt day (t .security)) .network) (shownSide (t .side))
+    is-there : Enterable ((securityAt day (t .security)) .issue .network) ((securityAt day (t .security)) .issue .unit) (nameAt day (t .security))
+    shows : Showable ((securityAt day (t .security)) .issue .network) (shownSide (t .side))
 
   trade-owes : (line : List ℕ) (later : Option Refusal) → tradeRanged line ≡ true → tradeRefusal (securityAt day ((tradeOf line) .security)) (tradeOf line) later ≡ none → Sides (tradeOf line)
   unfolding tradeRefusal tradeRanged tradeOf
@@ -221,7 +221,7 @@ module _ (day : Day) (held : Invariant day) (normal : day .settings .mode ≡ No
       let i = valueOf (numberIn (columns 2 5 line)) in
       let n = security-number i (and-left (isSecurityNumber i) _ r) in
       let side = firstSide line in
-      let network = (securityAt day i) .network in
+      let network = (securityAt day i) .issue .network in
       let p = passed (not (isEntered (securityAt day i))) NotEntered _ h in
       let q = passed (not (lawfulLetters (lettersField side) && onNetwork network ((sideOf side) .letters))) Conditions _ (p .1) in
       let u = passed (not (sideMatched side)) Unmatched _ (q .1) in
@@ -232,9 +232,9 @@ module _ (day : Day) (held : Invariant day) (normal : day .settings .mode ≡ No
       }
 
   record BothSides (c : Correction) : Type 0 where
-    is-there : Enterable ((securityAt day (c .security)) .network) ((securityAt day (c .security)) .unit) (nameAt day (c .security))
-    shows-original : Showable ((securityAt day (c .security)) .network) (shownSide (c .original))
-    shows-correcting : Showable ((securityAt day (c .security)) .network) (shownSide (c .correcting))
+    is-there : Enterable ((securityAt day (c .security)) .issue .network) ((securityAt day (c .security)) .issue .unit) (nameAt day (c .security))
+    shows-original : Showable ((securityAt day (c .security)) .issue .network) (shownSide (c .original))
+    shows-correcting : Showable ((securityAt day (c .security)) .issue .network) (shownSide (c .correcting))
 
   correction-owes : (line : List ℕ) (later : Option Refusal) → correctionRanged line ≡ true → correctionRefusal (securityAt day ((correctionOf line) .security)) (correctionOf line) later ≡ none → BothSides (correctionOf line)
   unfolding correctionRefusal correctionRanged correctionOf
@@ -244,7 +244,7 @@ module _ (day : Day) (held : Invariant day) (normal : day .settings .mode ≡ No
       let s = and-right (isSecurityNumber i) _ r in
       let x = firstSide line in
       let y = secondSide line in
-      let network = (securityAt day i) .network in
+      let network = (securityAt day i) .issue .network in
       let p = passed (not (isEntered (securityAt day i))) NotEntered _ h in
       let lawful = lawfulLetters (lettersField x) && lawfulLetters (lettersField y) in
       let on = onNetwork network ((sideOf x) .letters) && onNetwork network ((sideOf y) .letters) in
@@ -291,8 +291,8 @@ module _ (day : Day) (held : Invariant day) (normal : day .settings .mode ≡ No
         let b = showsTemporary y in
         let n = nameAt day (t .security) in
         let z = printed-text b n (o .is-there .sized) in
-        printable-as (by-trade (y .network) (y .unit) (printedName b n) (shownSide (t .side)) (printed-enterable b n (o .is-there)) (o .shows))
-        (ap (λ m. sideText m (y .network) (y .unit) true true (shownSide (t .side))) z ∙ same-side (nameText b n) (y .network) (y .unit) (t .side) ∙ sym (trade-text t) ∙ p)
+        printable-as (by-trade (y .issue .network) (y .issue .unit) (printedName b n) (shownSide (t .side)) (printed-enterable b n (o .is-there)) (o .shows))
+        (ap (λ m. sideText m (y .issue .network) (y .issue .unit) true true (shownSide (t .side))) z ∙ same-side (nameText b n) (y .issue .network) (y .issue .unit) (t .side) ∙ sym (trade-text t) ∙ p)
         (z ∙ sym (trade-name t) ∙ q)
         (same-trade (t .side) ∙ sym (trade-told t) ∙ ap readFact (some-same (sym (trade-fact t) ∙ f)) ∙ told)
 
@@ -303,8 +303,8 @@ module _ (day : Day) (held : Invariant day) (normal : day .settings .mode ≡ No
         let t = tradeOf line in
         let y = securityAt day (t .security) in
         let n = nameAt day (t .security) in
-        printable-as (by-cancel (y .network) (y .unit) n (shownSide (t .side)) (o .is-there) (o .shows))
-        (same-cancel cancelOpening (nameText false n) (y .network) (y .unit) (t .side) ∙ sym (cancel-text t cancelOpening) ∙ p)
+        printable-as (by-cancel (y .issue .network) (y .issue .unit) n (shownSide (t .side)) (o .is-there) (o .shows))
+        (same-cancel cancelOpening (nameText false n) (y .issue .network) (y .issue .unit) (t .side) ∙ sym (cancel-text t cancelOpening) ∙ p)
         q
         (ap readCancel (same-part (t .side) ∙ sym (part-told (t .side))) ∙ ap readFact (some-same f) ∙ told)
 
@@ -315,8 +315,8 @@ module _ (day : Day) (held : Invariant day) (normal : day .settings .mode ≡ No
         let t = tradeOf line in
         let y = securityAt day (t .security) in
         let n = nameAt day (t .security) in
-        printable-as (by-error (y .network) (y .unit) n (shownSide (t .side)) (o .is-there) (o .shows))
-        (same-cancel errorOpening (nameText false n) (y .network) (y .unit) (t .side) ∙ sym (cancel-text t errorOpening) ∙ p)
+        printable-as (by-error (y .issue .network) (y .issue .unit) n (shownSide (t .side)) (o .is-there) (o .shows))
+        (same-cancel errorOpening (nameText false n) (y .issue .network) (y .issue .unit) (t .side) ∙ sym (cancel-text t errorOpening) ∙ p)
         q
         (ap readError (same-part (t .side) ∙ sym (part-told (t .side))) ∙ ap readFact (some-same f) ∙ told)
 
@@ -327,8 +327,8 @@ module _ (day : Day) (held : Invariant day) (normal : day .settings .mode ≡ No
         let c = correctionOf line in
         let y = securityAt day (c .security) in
         let n = nameAt day (c .security) in
-        printable-as (by-correction (y .network) (y .unit) n (shownSide (c .original)) (shownSide (c .correcting)) (o .is-there) (o .shows-original) (o .shows-correcting))
-        (same-correction (nameText false n) (y .network) (y .unit) (c .original) (c .correcting) ∙ sym (correction-text c) ∙ p)
+        printable-as (by-correction (y .issue .network) (y .issue .unit) n (shownSide (c .original)) (shownSide (c .correcting)) (o .is-there) (o .shows-original) (o .shows-correcting))
+        (same-correction (nameText false n) (y .issue .network) (y .issue .unit) (c .original) (c .correcting) ∙ sym (correction-text c) ∙ p)
         (sym (correction-name c) ∙ q)
         (same-parts (c .original) (c .correcting) ∙ ap readFact (some-same (sym (correction-fact c) ∙ f)) ∙ told)
 

@@ -11,5 +11,5 @@ use Rattle.claim_compose.specs.Shown.{Enterable}
 pub record Invariant (day : Day) : Type 0 where
   pub securities-are : length (day .securities) ≡ securityPlaces
   pub names-are : length (day .names) ≡ securityPlaces
-  pub enterable : (i : ℕ) → 1 ≤ i → i ≤ securityPlaces → isEntered (securityAt day i) ≡ true → Enterable ((securityAt day i) .network) ((securityAt day i) .unit) (nameAt day i)
+  pub enterable : (i : ℕ) → 1 ≤ i → i ≤ securityPlaces → isEntered (securityAt day i) ≡ true → Enterable ((securityAt day i) .issue .network) ((securityAt day i) .issue .unit) (nameAt day i)
   pub minimum-set : between 1 100 (day .settings .minimum) ≡ true

@@ -31,9 +31,9 @@ module _ (day : Day) (name : List ℕ) (later : Option Refusal) where
   fine-trade t h e =
       let s = securityAt day (t .security) in
       let a = passed (not (isEntered s)) NotEntered _ e in
-      let b = passed (not (t .lawful && onNetwork (s .network) (t .side .letters))) Conditions _ (a .1) in
+      let b = passed (not (t .lawful && onNetwork (s .issue .network) (t .side .letters))) Conditions _ (a .1) in
       let c = passed (not (t .matched)) Unmatched _ (b .1) in
-      record { low = h .low; high = h .high; entered-there = not-false (isEntered s) (a .0); side-is = h .side-is (and-left (t .lawful) _ (not-false (t .lawful && onNetwork (s .network) (t .side .letters)) (b .0))) (not-false (t .matched) (c .0)) }
+      record { low = h .low; high = h .high; entered-there = not-false (isEntered s) (a .0); side-is = h .side-is (and-left (t .lawful) _ (not-false (t .lawful && onNetwork (s .issue .network) (t .side .letters)) (b .0))) (not-false (t .matched) (c .0)) }
 
   fine-state : (l : Line) → LawfulLine name l → stateRefusal day name l later ≡ none → Accepted day name l
   unfolding stateRefusal LawfulLine Accepted listingRefusal correctionRefusal
@@ -51,7 +51,7 @@ module _ (day : Day) (name : List ℕ) (later : Option Refusal) where
   fine-state (Erred t) h e = fine-trade t h e
   fine-state (Corrected c) h e =
       let s = securityAt day (c .security) in
-      let n = onNetwork (s .network) (c .original .letters) && onNetwork (s .network) (c .correcting .letters) in
+      let n = onNetwork (s .issue .network) (c .original .letters) && onNetwork (s .issue .network) (c .correcting .letters) in
       let a = passed (not (isEntered s)) NotEntered _ e in
       let b = passed (not (c .lawful && n)) Conditions _ (a .1) in
       let m = passed (not (c .matched)) Unmatched _ (b .1) in

@@ -72,7 +72,7 @@ free-there name (s ∷ l) (n ∷ names) h e (suc j) k q = free-there name l name
 
 -- ---- a change that leaves units, networks and names
 
-module _ (day e : Day) (k : Invariant day) (places : length (e .securities) ≡ 512) (names : e .names ≡ day .names) (units : (i : ℕ) → i < 512 → atPlace e i .unit ≡ atPlace day i .unit) (networks : (i : ℕ) → i < 512 → atPlace e i .network ≡ atPlace day i .network) where
+module _ (day e : Day) (k : Invariant day) (places : length (e .securities) ≡ 512) (names : e .names ≡ day .names) (units : (i : ℕ) → i < 512 → atPlace e i .issue .unit ≡ atPlace day i .issue .unit) (networks : (i : ℕ) → i < 512 → atPlace e i .issue .network ≡ atPlace day i .issue .network) where
   name-is : (i : ℕ) → named e i ≡ named day i
   name-is i = ap (λ (l : List (List ℕ)). getD l i noName) names
 
@@ -96,16 +96,16 @@ module _ (day e : Day) (k : Invariant day) (places : length (e .securities) ≡ 
   }
 
 -- one security changed, under the same unit and network
-module _ (day : Day) (k : Invariant day) (i : ℕ) (low : 1 ≤ i) (high : i ≤ 512) (s : Security) (unit-is : s .unit ≡ (securityAt day i) .unit) (network-is : s .network ≡ (securityAt day i) .network) where
-  changed : (j : ℕ) → (atPlace (withSecurity day i s) j .unit ≡ atPlace day j .unit) × (atPlace (withSecurity day i s) j .network ≡ atPlace day j .network)
+module _ (day : Day) (k : Invariant day) (i : ℕ) (low : 1 ≤ i) (high : i ≤ 512) (s : Security) (unit-is : s .issue .unit ≡ (securityAt day i) .issue .unit) (network-is : s .issue .network ≡ (securityAt day i) .issue .network) where
+  changed : (j : ℕ) → (atPlace (withSecurity day i s) j .issue .unit ≡ atPlace day j .issue .unit) × (atPlace (withSecurity day i s) j .issue .network ≡ atPlace day j .issue .network)
   changed j = ⊎-elim
       (λ (e : j ≡ i - 1).
       let q : getD (set (day .securities) (i - 1) s) j vacant ≡ s = ap (λ (m : ℕ). getD (set (day .securities) (i - 1) s) m vacant) e ∙ getD-set-same (day .securities) (i - 1) s vacant (omega (arith, k .places)) in
       let r : securityAt day i ≡ atPlace day j = ap (λ (m : ℕ). getD (day .securities) m vacant) (sym e) in
-      (ap (λ (x : Security). x .unit) q ∙ (unit-is ∙ ap (λ (x : Security). x .unit) r), ap (λ (x : Security). x .network) q ∙ (network-is ∙ ap (λ (x : Security). x .network) r)))
+      (ap (λ (x : Security). x .issue .unit) q ∙ (unit-is ∙ ap (λ (x : Security). x .issue .unit) r), ap (λ (x : Security). x .issue .network) q ∙ (network-is ∙ ap (λ (x : Security). x .issue .network) r)))
       (λ (n : j ≡ i - 1 → ⊥).
       let q = getD-set-other (day .securities) (i - 1) j s vacant n in
-      (ap (λ (x : Security). x .unit) q, ap (λ (x : Security). x .network) q))
+      (ap (λ (x : Security). x .issue .unit) q, ap (λ (x : Security). x .issue .network) q))
       (same-or-not j (i - 1))
 
   kept-changed : Invariant (withSecurity day i s)
@@ -156,9 +156,9 @@ module _ (day : Day) (k : Invariant day) (name : List ℕ) (l : Listing) (f : Ac
       (λ q. absurd (false-true (sym q ∙ is-new)))
       (λ n q. old-name j n ∙ k .no-name j h (ap isEntered (sym (old-security j n)) ∙ q))
 
-  plain-new : (j : ℕ) → j < 512 → isEntered (atPlace e j) ≡ true → NamePlain (atPlace e j .network) (named e j)
+  plain-new : (j : ℕ) → j < 512 → isEntered (atPlace e j) ≡ true → NamePlain (atPlace e j .issue .network) (named e j)
   unfolding entered
-  plain-new j h = at j (λ j. isEntered (atPlace e j) ≡ true → NamePlain (atPlace e j .network) (named e j))
+  plain-new j h = at j (λ j. isEntered (atPlace e j) ≡ true → NamePlain (atPlace e j .issue .network) (named e j))
       (λ q. rw (new-security, new-name) (f .plain))
       (λ n q. rw (old-security j n, old-name j n) (k .plain-name j h (ap isEntered (sym (old-security j n)) ∙ q)))
 
@@ -190,7 +190,7 @@ module _ (day : Day) (k : Invariant day) (name : List ℕ) (l : Listing) (f : Ac
   later-entered : Later day e
   later-entered = record {
     stays = λ j h q. at j (λ j. isEntered (atPlace day j) ≡ true → isEntered (atPlace e j) ≡ true) (λ q. is-new) (λ n q. ap isEntered (old-security j n) ∙ q) q;
-    same-network = λ j h q. at j (λ j. isEntered (atPlace day j) ≡ true → atPlace e j .network ≡ atPlace day j .network) (λ q. absurd (was-vacant q)) (λ n q. ap (λ (x : Security). x .network) (old-security j n)) q;
+    same-network = λ j h q. at j (λ j. isEntered (atPlace day j) ≡ true → atPlace e j .issue .network ≡ atPlace day j .issue .network) (λ q. absurd (was-vacant q)) (λ n q. ap (λ (x : Security). x .issue .network) (old-security j n)) q;
     same-name = λ j h q. at j (λ j. isEntered (atPlace day j) ≡ true → named e j ≡ named day j) (λ q. absurd (was-vacant q)) (λ n q. old-name j n) q;
   }
 

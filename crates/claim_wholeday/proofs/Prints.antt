@@ -17,7 +17,7 @@ use Rattle.rules.specs.Columns.{between}
 use Rattle.rules.specs.Names.{nameText, hasTemporary}
 use Rattle.rules.specs.Price.{wholePart, units}
 use Rattle.rules.specs.Side.{headText, sideText}
-use Rattle.rules.specs.Trade.{dollars, isNormal, showsVolume, printsTrade, tradeFull, tradeShows, afterTrade}
+use Rattle.rules.specs.Trade.{dollars, isNormal, showsVolume, printsTrade, tradeFull, tradeShows, printedAfter, afterTrade}
 use Rattle.rules.specs.Announcement.{modeText, levelText, minimumText, stepText}
 use Rattle.rules.specs.Correction.{correctionText, cancelText, cancelOpening, errorOpening, printsCorrection, correctionFull, correctionShows, cancelFull, cancelShows, afterCorrection}
 use Rattle.rules.specs.Day.{Day, vacant, noName, securityAt, nameAt, isEntered, showsTemporary, entered, withSettings, withSecurity, printOf, tradePrint, cancelPrint, correctionPrint, afterLine}
@@ -67,7 +67,7 @@ module _ (day e : Day) (k : Invariant e) (l : Later day e) (i : ℕ) (low : 1 �
   name-kept : nameIn (e .names) i ≡ nameAt day i
   name-kept = l .same-name p inside entered-there
 
-  plain-there : NamePlain ((securityAt day i) .network) (nameIn (e .names) i)
+  plain-there : NamePlain ((securityAt day i) .issue .network) (nameIn (e .names) i)
   plain-there = rw (← l .same-network p inside entered-there) (k .plain-name p inside stays-there)
 
   alone-there : (b : Bool) (m : ℕ) → m < p → isNameOf (nameText b (nameIn (e .names) i)) (getD (e .names) m noName) ≡ false
@@ -75,9 +75,9 @@ module _ (day e : Day) (k : Invariant e) (l : Later day e) (i : ℕ) (low : 1 �
     where
       go : (q : Bool) → isEntered (atPlace e m) ≡ q → isNameOf (nameText b (nameIn (e .names) i)) (getD (e .names) m noName) ≡ false
       go true q = unlike-name b (named e p) (named e m) (k .distinct p m inside (omega (arith, inside, h)) (omega (arith, h)) stays-there q)
-      go false q = rw (k .no-name m (omega (arith, inside, h)) q) (no-name (nameText b (nameIn (e .names) i)) (name-head ((securityAt day i) .network) (nameIn (e .names) i) plain-there b))
+      go false q = rw (k .no-name m (omega (arith, inside, h)) q) (no-name (nameText b (nameIn (e .names) i)) (name-head ((securityAt day i) .issue .network) (nameIn (e .names) i) plain-there b))
 
-  known : Known (e .names) ((securityAt day i) .network) i
+  known : Known (e .names) ((securityAt day i) .issue .network) i
   known = record { low = low; high = omega (arith, k .lines); is-plain = plain-there; alone = alone-there }
 
 -- ---- what is carried
@@ -91,7 +91,7 @@ none-printed : printedOf vacant ≡ 0
 unfolding printedOf vacant isEntered pick
 none-printed = refl
 
-printed-there : (s : Security) → isEntered s ≡ true → printedOf s ≡ s .printed
+printed-there : (s : Security) → isEntered s ≡ true → printedOf s ≡ s .printed .price
 unfolding printedOf pick
 printed-there s h = rw h
 
@@ -99,7 +99,7 @@ printed-none : (s : Security) → isEntered s ≡ false → printedOf s ≡ 0
 unfolding printedOf pick
 printed-none s h = rw h
 
-carried-price : (day : Day) (i : ℕ) → isEntered (securityAt day i) ≡ true → getD ((carriedOf day) .printed) (i - 1) 0 ≡ (securityAt day i) .printed
+carried-price : (day : Day) (i : ℕ) → isEntered (securityAt day i) ≡ true → getD ((carriedOf day) .printed) (i - 1) 0 ≡ (securityAt day i) .printed .price
 unfolding carriedOf
 carried-price day i h =
     ap (λ (d : ℕ). getD (map printedOf (day .securities)) (i - 1) d) (sym none-printed)
@@ -117,7 +117,7 @@ carried-set day i price s h = rw (map-set printedOf (day .securities) (i - 1) s,
 
 -- ---- a trade
 
-entered-as : (s t : Security) → s .unit ≡ t .unit → isEntered t ≡ true → isEntered s ≡ true
+entered-as : (s t : Security) → s .issue .unit ≡ t .issue .unit → isEntered t ≡ true → isEntered s ≡ true
 unfolding isEntered
 entered-as s t e h = rw e h
 
@@ -143,7 +143,7 @@ module _ (day e : Day) (k : Invariant e) (l : Later day e) (t : Trade) (f : Acce
   abbrev i : ℕ
   i = t .security
 
-  known-trade : Known (e .names) (s .network) i
+  known-trade : Known (e .names) (s .issue .network) i
   known-trade = known day e k l i (f .low) (f .high) (f .entered-there)
 
   same-trade-name : nameIn (e .names) i ≡ nameAt day i
@@ -157,12 +157,12 @@ module _ (day e : Day) (k : Invariant e) (l : Later day e) (t : Trade) (f : Acce
   after-entered = entered-as after-trade s refl (f .entered-there)
 
   -- left off: nothing is printed, and the last printed price stays
-  price-stays : printsTrade st s (t .market) x ≡ false → after-trade .printed ≡ s .printed
-  unfolding afterTrade pick
+  price-stays : printsTrade st s (t .market) x ≡ false → after-trade .printed .price ≡ s .printed .price
+  unfolding afterTrade printedAfter pick
   price-stays q = rw q
 
-  price-moves : printsTrade st s (t .market) x ≡ true → after-trade .printed ≡ units (x .price)
-  unfolding afterTrade pick
+  price-moves : printsTrade st s (t .market) x ≡ true → after-trade .printed .price ≡ units (x .price)
+  unfolding afterTrade printedAfter pick
   price-moves q = rw q
 
   no-print : printsTrade st s (t .market) x ≡ false → tradePrint day t ≡ []
@@ -174,14 +174,14 @@ module _ (day e : Day) (k : Invariant e) (l : Later day e) (t : Trade) (f : Acce
 
   -- printed: the text under the name that is known
   abbrev text : List ℕ
-  text = sideText (nameText (showsTemporary s) (nameIn (e .names) i)) (s .network) (s .unit) (tradeFull st s (t .market) x) (tradeShows st s (t .market) x) x
+  text = sideText (nameText (showsTemporary s) (nameIn (e .names) i)) (s .issue .network) (s .issue .unit) (tradeFull st s (t .market) x) (tradeShows st s (t .market) x) x
 
   the-print : printsTrade st s (t .market) x ≡ true → tradePrint day t ≡ text
   unfolding tradePrint opt
   the-print q = rw (q, same-trade-name)
 
   -- what is found is the fact
-  premise : tradeFalls day t ≡ false → printsTrade st s (t .market) x ≡ true → (not (isNormal (st .mode)) && (between 1 9 (wholePart (x .price)) && leb 10 (dollars (s .printed)))) ≡ false
+  premise : tradeFalls day t ≡ false → printsTrade st s (t .market) x ≡ true → (not (isNormal (st .mode)) && (between 1 9 (wholePart (x .price)) && leb 10 (dollars (s .printed .price)))) ≡ false
   unfolding tradeFalls
   premise w q = rw q at w
 
@@ -190,18 +190,18 @@ module _ (day e : Day) (k : Invariant e) (l : Later day e) (t : Trade) (f : Acce
   mode-is = refl
 
   found-fact : tradeFalls day t ≡ false → printsTrade st s (t .market) x ≡ true
-      → traded i (showsTemporary s && hasTemporary (nameIn (e .names) i)) (priceBy ((carriedOf day) .mode) (getD ((carriedOf day) .printed) (i - 1) 0) (shownPrice (tradeFull st s (t .market) x) (x .price))) (conditionsOf x) (volumeBy ((carriedOf day) .mode) (pick (tradeShows st s (t .market) x) (shownOf (s .network) (s .unit) (x .volume)) unsaid)) ≡ tradeFact day t
+      → traded i (showsTemporary s && hasTemporary (nameIn (e .names) i)) (priceBy ((carriedOf day) .mode) (getD ((carriedOf day) .printed) (i - 1) 0) (shownPrice (tradeFull st s (t .market) x) (x .price))) (conditionsOf x) (volumeBy ((carriedOf day) .mode) (pick (tradeShows st s (t .market) x) (shownOf (s .issue .network) (s .issue .unit) (x .volume)) unsaid)) ≡ tradeFact day t
   unfolding tradeFact shownVolume tradeShows
   found-fact w q =
-      rw (carried-price day i (f .entered-there), mode-is, price-by st s (t .market) x (f .side-is) (premise w q), same-trade-name, volume-by (st .mode) (showsVolume st s (t .market) x) (s .network) (s .unit) (x .volume))
+      rw (carried-price day i (f .entered-there), mode-is, price-by st s (t .market) x (f .side-is) (premise w q), same-trade-name, volume-by (st .mode) (showsVolume st s (t .market) x) (s .issue .network) (s .issue .unit) (x .volume))
 
   printed : tradeFalls day t ≡ false → printsTrade st s (t .market) x ≡ true → decoding.Told (e .names) day (withSecurity day i after-trade) (tradePrint day t) (tradeFact day t)
   unfolding next tradeFact
   printed w q = record {
     follows = carried-set day i (units (x .price)) after-trade (printed-there after-trade after-entered ∙ price-moves q);
-    some-text = rw (the-print q) (side-some (s .network) (nameIn (e .names) i) (known-trade .is-plain) (showsTemporary s) (s .unit) (tradeFull st s (t .market) x) (tradeShows st s (t .market) x) x);
-    starts = λ r. rw (the-print q) (side-fresh (s .network) (nameIn (e .names) i) (known-trade .is-plain) (showsTemporary s) (s .unit) (tradeFull st s (t .market) x) (tradeShows st s (t .market) x) x (f .side-is .price) r);
-    undone = λ r u. rw (the-print q) (trade-undone (e .names) (s .network) i known-trade (carriedOf day) (showsTemporary s) (s .unit) (tradeFull st s (t .market) x) (tradeShows st s (t .market) x) x r (f .side-is) u ∙ ap (λ (g : Fact). there g r) (found-fact w q));
+    some-text = rw (the-print q) (side-some (s .issue .network) (nameIn (e .names) i) (known-trade .is-plain) (showsTemporary s) (s .issue .unit) (tradeFull st s (t .market) x) (tradeShows st s (t .market) x) x);
+    starts = λ r. rw (the-print q) (side-fresh (s .issue .network) (nameIn (e .names) i) (known-trade .is-plain) (showsTemporary s) (s .issue .unit) (tradeFull st s (t .market) x) (tradeShows st s (t .market) x) x (f .side-is .price) r);
+    undone = λ r u. rw (the-print q) (trade-undone (e .names) (s .issue .network) i known-trade (carriedOf day) (showsTemporary s) (s .issue .unit) (tradeFull st s (t .market) x) (tradeShows st s (t .market) x) x r (f .side-is) u ∙ ap (λ (g : Fact). there g r) (found-fact w q));
   }
 
   trade-owed : tradeFalls day t ≡ false → decoding.Decodes (e .names) day (withSecurity day i after-trade) (tradePrint day t) (pick (printsTrade st s (t .market) x) (some (tradeFact day t)) none)
@@ -218,11 +218,11 @@ module _ (day e : Day) (k : Invariant e) (l : Later day e) (t : Trade) (f : Acce
   abbrev sc : Security
   sc = securityAt day (t .security)
 
-  known-cancel : Known (e .names) (sc .network) (t .security)
+  known-cancel : Known (e .names) (sc .issue .network) (t .security)
   known-cancel = known day e k l (t .security) (f .low) (f .high) (f .entered-there)
 
   abbrev cancel-text : List ℕ → List ℕ
-  cancel-text opening = cancelText opening (nameText false (nameIn (e .names) (t .security))) (sc .network) (sc .unit) (cancelFull (day .settings) sc (t .side)) (cancelShows (day .settings) (t .side)) (t .side)
+  cancel-text opening = cancelText opening (nameText false (nameIn (e .names) (t .security))) (sc .issue .network) (sc .issue .unit) (cancelFull (day .settings) sc (t .side)) (cancelShows (day .settings) (t .side)) (t .side)
 
   the-cancel : (opening : List ℕ) → cancelPrint opening day t ≡ cancel-text opening
   unfolding cancelPrint
@@ -238,7 +238,7 @@ module _ (day e : Day) (k : Invariant e) (l : Later day e) (t : Trade) (f : Acce
     follows = refl;
     some-text = rw (the-cancel cancelOpening) (omega arith);
     starts = λ r. rw (the-cancel cancelOpening) (fresh-pair _);
-    undone = λ r u. rw (the-cancel cancelOpening) (cancel-undone (e .names) (sc .network) (t .security) known-cancel (carriedOf day) (sc .unit) _ _ (t .side) r (f .side-is) u);
+    undone = λ r u. rw (the-cancel cancelOpening) (cancel-undone (e .names) (sc .issue .network) (t .security) known-cancel (carriedOf day) (sc .issue .unit) _ _ (t .side) r (f .side-is) u);
   }
 
   error-owed : decoding.Told (e .names) day day (cancelPrint errorOpening day t) (erred (t .security) (partOf (isNormal (day .settings .mode)) (t .side)))
@@ -247,7 +247,7 @@ module _ (day e : Day) (k : Invariant e) (l : Later day e) (t : Trade) (f : Acce
     follows = refl;
     some-text = rw (the-cancel errorOpening) (omega arith);
     starts = λ r. rw (the-cancel errorOpening) (fresh-pair _);
-    undone = λ r u. rw (the-cancel errorOpening) (error-undone (e .names) (sc .network) (t .security) known-cancel (carriedOf day) (sc .unit) _ _ (t .side) r (f .side-is) u);
+    undone = λ r u. rw (the-cancel errorOpening) (error-undone (e .names) (sc .issue .network) (t .security) known-cancel (carriedOf day) (sc .issue .unit) _ _ (t .side) r (f .side-is) u);
   }
 
 -- ---- a correction
@@ -256,7 +256,7 @@ module _ (day e : Day) (k : Invariant e) (l : Later day e) (c : Correction) (f :
   abbrev sx : Security
   sx = securityAt day (c .security)
 
-  known-correction : Known (e .names) (sx .network) (c .security)
+  known-correction : Known (e .names) (sx .issue .network) (c .security)
   known-correction = known day e k l (c .security) (f .low) (f .high) (f .entered-there)
 
   abbrev after-correction : Security
@@ -268,7 +268,7 @@ module _ (day e : Day) (k : Invariant e) (l : Later day e) (c : Correction) (f :
   correction-stays = carried-same day (c .security) after-correction refl
 
   abbrev correction-text : List ℕ
-  correction-text = correctionText (nameText false (nameIn (e .names) (c .security))) (sx .network) (sx .unit) (correctionFull (day .settings) sx (c .original) (c .correcting)) (correctionShows (day .settings) (c .original) (c .correcting)) (c .original) (c .correcting)
+  correction-text = correctionText (nameText false (nameIn (e .names) (c .security))) (sx .issue .network) (sx .issue .unit) (correctionFull (day .settings) sx (c .original) (c .correcting)) (correctionShows (day .settings) (c .original) (c .correcting)) (c .original) (c .correcting)
 
   the-correction : printsCorrection (day .settings) sx (c .original) (c .correcting) ≡ true → correctionPrint day c ≡ correction-text
   unfolding correctionPrint opt
@@ -284,7 +284,7 @@ module _ (day e : Day) (k : Invariant e) (l : Later day e) (c : Correction) (f :
     follows = correction-stays;
     some-text = rw (the-correction q) (omega arith);
     starts = λ r. rw (the-correction q) (fresh-pair _);
-    undone = λ r u. rw (the-correction q) (correction-undone (e .names) (sx .network) (c .security) known-correction (carriedOf day) (sx .unit) _ _ (c .original) (c .correcting) r (f .original-is) (f .correcting-is) u);
+    undone = λ r u. rw (the-correction q) (correction-undone (e .names) (sx .issue .network) (c .security) known-correction (carriedOf day) (sx .issue .unit) _ _ (c .original) (c .correcting) r (f .original-is) (f .correcting-is) u);
   }
 
   correction-owed : decoding.Decodes (e .names) day (withSecurity day (c .security) after-correction) (correctionPrint day c) (pick (printsCorrection (day .settings) sx (c .original) (c .correcting)) (some (corrected (c .security) (partOf (isNormal (day .settings .mode)) (c .original)) (partOf (isNormal (day .settings .mode)) (c .correcting)))) none)

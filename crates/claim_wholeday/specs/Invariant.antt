@@ -22,11 +22,11 @@ pub record Invariant (day : Day) : Type 0 where
   pub places : length (day .securities) ≡ securityPlaces
   pub lines : length (day .names) ≡ securityPlaces
   pub no-name : (i : ℕ) → i < securityPlaces → isEntered (atPlace day i) ≡ false → named day i ≡ noName
-  pub plain-name : (i : ℕ) → i < securityPlaces → isEntered (atPlace day i) ≡ true → NamePlain (atPlace day i .network) (named day i)
+  pub plain-name : (i : ℕ) → i < securityPlaces → isEntered (atPlace day i) ≡ true → NamePlain (atPlace day i .issue .network) (named day i)
   pub distinct : (i j : ℕ) → i < securityPlaces → j < securityPlaces → (i ≡ j → ⊥) → isEntered (atPlace day i) ≡ true → isEntered (atPlace day j) ≡ true → sameName (named day i) (named day j) ≡ false
 
 -- the second day has every security of the first, under the same name and network
 pub record Later (day e : Day) : Type 0 where
   pub stays : (i : ℕ) → i < securityPlaces → isEntered (atPlace day i) ≡ true → isEntered (atPlace e i) ≡ true
-  pub same-network : (i : ℕ) → i < securityPlaces → isEntered (atPlace day i) ≡ true → atPlace e i .network ≡ atPlace day i .network
+  pub same-network : (i : ℕ) → i < securityPlaces → isEntered (atPlace day i) ≡ true → atPlace e i .issue .network ≡ atPlace day i .issue .network
   pub same-name : (i : ℕ) → i < securityPlaces → isEntered (atPlace day i) ≡ true → named e i ≡ named day i

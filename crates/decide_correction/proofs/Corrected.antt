@@ -5,12 +5,13 @@ use mathlib.Core.Bool.{Bool, true, false, _&&_, _||_, not}
 use lib.Dec.{eqb, leb}
 use Rattle.rules.specs.Price.{wholePart, units}
 use Rattle.rules.specs.Conditions.{hasRule}
-use Rattle.rules.specs.Trade.{atLevel, tens, endsInZero, highAfter, lowAfter, lastAfter}
+use Rattle.rules.specs.Trade.{atLevel, tens, endsInZero, rangeAfter}
 use Rattle.rules.specs.Correction.{pricesDiffer, printsInDvd, unlikeLast, printsInBoth, printsCorrection, isMpv, wholeInFull, afterCorrection}
 use Rattle.rules.specs.declared.Mode.{Mode}
 use Rattle.rules.specs.declared.Mode.the-variants.{Normal, Dvd, Rpo, Mpv}
 use Rattle.rules.specs.declared.Side.{Side}
 use Rattle.rules.specs.declared.Settings.{Settings}
+use Rattle.rules.specs.declared.Range.{Range}
 use Rattle.rules.specs.declared.Security.{Security}
 
 -- ---- values and whole parts, as a callee answered them
@@ -23,8 +24,8 @@ pub differ-by-tens : (x y : Side) (a b : ℕ) → a ≡ wholePart (x .price) →
 unfolding tens
 differ-by-tens x y a b e f = rw (e, f)
 
-pub unlike-value : (s : Security) (y : Side) (v : ℕ) (r : Bool) → v ≡ units (y .price) → r ≡ unlikeLast s v → r ≡ unlikeLast s (units (y .price))
-unlike-value s y v r e h = rw (← e) h
+pub unlike-value : (held : Range) (y : Side) (v : ℕ) (r : Bool) → v ≡ units (y .price) → r ≡ unlikeLast held v → r ≡ unlikeLast held (units (y .price))
+unlike-value held y v r e h = rw (← e) h
 
 pub full-whole : (x : Side) (w : ℕ) (r : Bool) → w ≡ wholePart (x .price) → r ≡ (endsInZero w || leb 1000 w) → r ≡ wholeInFull x
 unfolding wholeInFull
@@ -70,10 +71,6 @@ pub ruleset modes = (mpv-normal, mpv-dvd, mpv-rpo, mpv-yes, prints-normal, print
 
 -- ---- after a correction
 
-pub corrected : (s : Security) (y : Side) (high low last : ℕ)
-    → high ≡ highAfter s y
-    → low ≡ lowAfter s y
-    → last ≡ lastAfter s y
-    → (record { unit = s .unit; network = s .network; market = s .market; first = s .first; printed = s .printed; high = high; low = low; last = last; trades = s .trades; qualified = s .qualified; primaries = s .primaries }) ≡ afterCorrection s y
+pub corrected : (s : Security) (y : Side) (range : Range) → range ≡ rangeAfter (s .range) y → record { issue = s .issue; printed = s .printed; range = range; counts = s .counts } ≡ afterCorrection s y
 unfolding afterCorrection
-corrected s y high low last e f g = rw (e, f, g)
+corrected s y range e = rw e

@@ -2,6 +2,7 @@
 // Corrections and cancels). Settings and securities may hold any numbers.
 use rules::Letters;
 use rules::Mode;
+use rules::Range;
 use rules::Security;
 use rules::Settings;
 use rules::Side;
@@ -52,7 +53,7 @@ fn prints_in_dvd(st: Settings, s: Security, x: Side, y: Side) -> bool
     if decide_letters::has_rule(letters) {
         return true; // DVD: correcting J or G
     }
-    s.unit == 1
+    s.issue.unit == 1
 }
 
 // R on either side.
@@ -79,19 +80,19 @@ pub fn seller_differs(x: Side, y: Side) -> bool
 }
 
 // A price unlike the consolidated last, or none yet.
-fn unlike_last(s: Security, value: u64) -> bool
-    ensures { λ r. ⌜ r ≡ unlikeLast s value ⌝ }
+fn unlike_last(held: Range, value: u64) -> bool
+    ensures { λ r. ⌜ r ≡ unlikeLast held value ⌝ }
 {
-    if s.last == 0 {
+    if held.last == 0 {
         return true;
     }
-    value != s.last
+    value != held.last
 }
 
 // Qualifying for last with such a price.
-pub fn moves_last(s: Security, y: Side) -> bool
+pub fn moves_last(held: Range, y: Side) -> bool
     requires { ⌜ Sound (y .price) ⌝ }
-    ensures { λ r. ⌜ r ≡ (forLast (y .letters) && unlikeLast s (units (y .price))) ⌝ }
+    ensures { λ r. ⌜ r ≡ (forLast (y .letters) && unlikeLast held (units (y .price))) ⌝ }
 {
     let letters = y.letters;
     let price = y.price;
@@ -99,18 +100,18 @@ pub fn moves_last(s: Security, y: Side) -> bool
         return false;
     }
     let value = print_price::in_units(price);
-    unlike_last(s, value)
+    unlike_last(held, value)
 }
 
 // A new high or low, or such a last.
-fn moves_price(s: Security, y: Side) -> bool
+fn moves_price(held: Range, y: Side) -> bool
     requires { ⌜ Sound (y .price) ⌝ }
-    ensures { λ r. ⌜ r ≡ (newRange s y || (forLast (y .letters) && unlikeLast s (units (y .price)))) ⌝ }
+    ensures { λ r. ⌜ r ≡ (newRange held y || (forLast (y .letters) && unlikeLast held (units (y .price)))) ⌝ }
 {
-    if decide_levels::new_range(s, y) {
+    if decide_levels::new_range(held, y) {
         return true;
     }
-    moves_last(s, y)
+    moves_last(held, y)
 }
 
 // In RPO and in MPV.
@@ -118,7 +119,8 @@ fn prints_in_both(st: Settings, s: Security, x: Side, y: Side) -> bool
     requires { ⌜ Sound (x .price) × Sound (y .price) ⌝ }
     ensures { λ r. ⌜ r ≡ printsInBoth st s x y ⌝ }
 {
-    if s.unit == 1 {
+    let held = s.range;
+    if s.issue.unit == 1 {
         return true; // unit 1
     }
     if decide_levels::at_level(st, x.volume) {
@@ -130,7 +132,7 @@ fn prints_in_both(st: Settings, s: Security, x: Side, y: Side) -> bool
     if seller_differs(x, y) {
         return true; // R, and prices differ
     }
-    moves_price(s, y)
+    moves_price(held, y)
 }
 
 fn prints_in_rpo(st: Settings, s: Security, x: Side, y: Side) -> bool
@@ -240,7 +242,7 @@ fn full_prices(st: Settings, s: Security, x: Side, y: Side) -> bool
     requires { ⌜ Sound (x .price) × Sound (y .price) ⌝ }
     ensures { λ r. ⌜ r ≡ fullPrices st s x y ⌝ }
 {
-    if s.unit == 1 {
+    if s.issue.unit == 1 {
         return true;
     }
     if whole_in_full(x) {
@@ -295,7 +297,7 @@ pub fn cancel_full(st: Settings, s: Security, x: Side) -> bool
     if decide_levels::is_normal(mode) {
         return true;
     }
-    if s.unit == 1 {
+    if s.issue.unit == 1 {
         return true;
     }
     whole_in_full(x)
@@ -324,17 +326,14 @@ pub fn after_correction(s: Security, y: Side) -> Security
     requires { ⌜ Sound (y .price) ⌝ }
     ensures { λ r. ⌜ r ≡ afterCorrection s y ⌝ }
 {
+    let issue = s.issue;
+    let printed = s.printed;
+    let held = s.range;
+    let counts = s.counts;
     Security {
-        unit: s.unit,
-        network: s.network,
-        market: s.market,
-        first: s.first,
-        printed: s.printed,
-        high: decide_trade::high_after(s, y),
-        low: decide_trade::low_after(s, y),
-        last: decide_trade::last_after(s, y),
-        trades: s.trades,
-        qualified: s.qualified,
-        primaries: s.primaries,
+        issue: issue,
+        printed: printed,
+        range: decide_trade::range_after(held, y),
+        counts: counts,
     }
 }

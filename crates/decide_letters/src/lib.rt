@@ -121,12 +121,12 @@ pub fn on_network(network: u64, x: Letters) -> bool
 pub fn is_entered(s: Security) -> bool
     ensures { λ r. ⌜ r ≡ isEntered s ⌝ }
 {
-    s.unit != 0
+    s.issue.unit != 0
 }
 
 // The temporary suffix, on the first five trades of the security's day.
 pub fn shows_temporary(s: Security) -> bool
     ensures { λ r. ⌜ r ≡ showsTemporary s ⌝ }
 {
-    s.trades < 5
+    s.counts.trades < 5
 }

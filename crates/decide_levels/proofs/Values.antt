@@ -8,28 +8,29 @@ use borrow.Author.Tests.{lt-ltb, le-ltb, ltb-true, ltb-false, leb-true, leb-fals
 use Rattle.text.specs.Pick.{pick}
 use Rattle.text.proofs.Booleans.{or-false}
 use Rattle.rules.specs.Price.{units}
-use Rattle.rules.specs.Qualifying.{forRange}
-use Rattle.rules.specs.Trade.{atLevel, newHigh, newLow, printsAnyhow, unlikePrinted, distance, farFromPrinted, printsTrade, isNormal, highAfter, lowAfter}
+use Rattle.rules.specs.Trade.{atLevel, newHigh, newLow, printsAnyhow, unlikePrinted, distance, farFromPrinted, printsTrade, isNormal}
 use Rattle.rules.specs.declared.Mode.{Mode}
 use Rattle.rules.specs.declared.Mode.the-variants.{Normal, Dvd, Rpo, Mpv}
 use Rattle.rules.specs.declared.Price.{Price}
 use Rattle.rules.specs.declared.Side.{Side}
 use Rattle.rules.specs.declared.Settings.{Settings}
+use Rattle.rules.specs.declared.Printed.{Printed}
+use Rattle.rules.specs.declared.Range.{Range}
 use Rattle.rules.specs.declared.Security.{Security}
 use Rattle.decide_levels.specs.Parts.{newAt, lastUnlike, lastFar, printsRpo, printsMpv}
 
 -- ---- a price's value, as a callee answered it
 
-module _ (v : ℕ) (p : Price) (e : v ≡ units p) (s : Security) (r : Bool) where
-  pub new-value : r ≡ newAt s v → r ≡ (newHigh s (units p) || newLow s (units p))
+module _ (v : ℕ) (p : Price) (e : v ≡ units p) (r : Bool) where
+  pub new-value : (held : Range) → r ≡ newAt held v → r ≡ (newHigh held (units p) || newLow held (units p))
   unfolding newAt
-  new-value h = rw (← e) h
+  new-value held h = rw (← e) h
 
-  pub unlike-value : r ≡ unlikePrinted s v → r ≡ unlikePrinted s (units p)
-  unlike-value h = rw (← e) h
+  pub unlike-value : (printed : Printed) → r ≡ unlikePrinted printed v → r ≡ unlikePrinted printed (units p)
+  unlike-value printed h = rw (← e) h
 
-  pub far-value : (st : Settings) → r ≡ farFromPrinted st s v → r ≡ farFromPrinted st s (units p)
-  far-value st h = rw (← e) h
+  pub far-value : (st : Settings) (printed : Printed) → r ≡ farFromPrinted st printed v → r ≡ farFromPrinted st printed (units p)
+  far-value st printed h = rw (← e) h
 
 pub ruleset values = (new-value, unlike-value, far-value)
 
@@ -52,10 +53,10 @@ unfolding pick
 far-by v p d true e = rw (le-ltb (p + d) v (omega (arith, ltb-true v p e)))
 far-by v p d false e = rw (le-ltb (v + d) p (omega (arith, ltb-false v p e))) (sym (or-false (ltb (p + d) v)))
 
-pub far-either : (st : Settings) (s : Security) (value m l : ℕ) (r : Bool) → (s .printed ≡ 0 → ⊥) → m ≡ pick (ltb value (s .printed)) (s .printed) value → l ≡ pick (ltb value (s .printed)) value (s .printed)
-    → r ≡ ltb (l + st .minimum * 5000000) m → r ≡ farFromPrinted st s value
+pub far-either : (st : Settings) (p : Printed) (value m l : ℕ) (r : Bool) → (p .price ≡ 0 → ⊥) → m ≡ pick (ltb value (p .price)) (p .price) value → l ≡ pick (ltb value (p .price)) value (p .price)
+    → r ≡ ltb (l + st .minimum * 5000000) m → r ≡ farFromPrinted st p value
 unfolding farFromPrinted distance
-far-either st s value m l r h e f g = rw (ne-eqb (s .printed) 0 h) (rw (e, f) at g ∙ far-by value (s .printed) (st .minimum * 5000000) (ltb value (s .printed)) refl)
+far-either st p value m l r h e f g = rw (ne-eqb (p .price) 0 h) (rw (e, f) at g ∙ far-by value (p .price) (st .minimum * 5000000) (ltb value (p .price)) refl)
 
 -- ---- by mode
 
@@ -94,14 +95,3 @@ module _ (st : Settings) (s : Security) (market : ℕ) (x : Side) where
   pub prints-mpv : (r : Bool) → st .mode ≡ Mpv → r ≡ printsMpv st s market x → r ≡ printsTrade st s market x
   unfolding printsTrade printsMpv lastFar printsAnyhow atLevel farFromPrinted distance
   prints-mpv r h e = rw h e
-
--- ---- after a trade
-
-module _ (s : Security) (x : Side) (v : ℕ) (q n : Bool) (r : ℕ) where
-  pub high-moved : v ≡ units (x .price) → q ≡ forRange (x .letters) → n ≡ newHigh s v → r ≡ pick (q && n) v (s .high) → r ≡ highAfter s x
-  unfolding highAfter
-  high-moved a b c e = rw (← a, ← b, ← c) e
-
-  pub low-moved : v ≡ units (x .price) → q ≡ forRange (x .letters) → n ≡ newLow s v → r ≡ pick (q && n) v (s .low) → r ≡ lowAfter s x
-  unfolding lowAfter
-  low-moved a b c e = rw (← a, ← b, ← c) e

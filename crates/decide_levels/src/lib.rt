@@ -1,7 +1,10 @@
 // What the decisions of the modes compare (document 01, "Trades by mode"): first-day issues, the level, a new high or low, a
 // price unlike the last printed one or far from it, tens and zeros.
+use rules::Counts;
 use rules::Letters;
 use rules::Mode;
+use rules::Printed;
+use rules::Range;
 use rules::Security;
 use rules::Settings;
 use rules::Side;
@@ -20,13 +23,13 @@ ghost use Rattle.decide_levels.specs.Parts.{newAt, lastUnlike, lastFar};
 pub fn six(s: Security, market: u64) -> bool
     ensures { λ r. ⌜ r ≡ six s market ⌝ }
 {
-    if s.first != 1 {
+    if s.issue.first != 1 {
         return false;
     }
-    if market != s.market {
+    if market != s.issue.market {
         return false;
     }
-    s.primaries < 6
+    s.counts.primaries < 6
 }
 
 // At or over the delete level.
@@ -37,50 +40,50 @@ pub fn at_level(st: Settings, volume: u64) -> bool
 }
 
 // The first trade qualifying for last.
-pub fn first_qualifying(s: Security, x: Letters) -> bool
-    ensures { λ r. ⌜ r ≡ firstQualifying s x ⌝ }
+pub fn first_qualifying(c: Counts, x: Letters) -> bool
+    ensures { λ r. ⌜ r ≡ firstQualifying c x ⌝ }
 {
     if !decide_letters::for_last(x) {
         return false;
     }
-    s.qualified == 0
+    c.qualified == 0
 }
 
 // Above the high, or the first.
-pub fn new_high(s: Security, value: u64) -> bool
-    ensures { λ r. ⌜ r ≡ newHigh s value ⌝ }
+pub fn new_high(held: Range, value: u64) -> bool
+    ensures { λ r. ⌜ r ≡ newHigh held value ⌝ }
 {
-    if s.high == 0 {
+    if held.high == 0 {
         return true;
     }
-    s.high < value
+    held.high < value
 }
 
 // Below the low, or the first.
-pub fn new_low(s: Security, value: u64) -> bool
-    ensures { λ r. ⌜ r ≡ newLow s value ⌝ }
+pub fn new_low(held: Range, value: u64) -> bool
+    ensures { λ r. ⌜ r ≡ newLow held value ⌝ }
 {
-    if s.low == 0 {
+    if held.low == 0 {
         return true;
     }
-    value < s.low
+    value < held.low
 }
 
 // ---- by a price's value
 
-pub fn new_at(s: Security, value: u64) -> bool
-    ensures { λ r. ⌜ r ≡ newAt s value ⌝ }
+pub fn new_at(held: Range, value: u64) -> bool
+    ensures { λ r. ⌜ r ≡ newAt held value ⌝ }
 {
-    if new_high(s, value) {
+    if new_high(held, value) {
         return true;
     }
-    new_low(s, value)
+    new_low(held, value)
 }
 
 // A new high or low by a trade that qualifies for them.
-pub fn new_range(s: Security, x: Side) -> bool
+pub fn new_range(held: Range, x: Side) -> bool
     requires { ⌜ Sound (x .price) ⌝ }
-    ensures { λ r. ⌜ r ≡ newRange s x ⌝ }
+    ensures { λ r. ⌜ r ≡ newRange held x ⌝ }
 {
     let letters = x.letters;
     let price = x.price;
@@ -88,17 +91,17 @@ pub fn new_range(s: Security, x: Side) -> bool
         return false;
     }
     let value = print_price::in_units(price);
-    new_at(s, value)
+    new_at(held, value)
 }
 
 // A price unlike the last printed, or none printed.
-pub fn unlike_printed(s: Security, value: u64) -> bool
-    ensures { λ r. ⌜ r ≡ unlikePrinted s value ⌝ }
+pub fn unlike_printed(p: Printed, value: u64) -> bool
+    ensures { λ r. ⌜ r ≡ unlikePrinted p value ⌝ }
 {
-    if s.printed == 0 {
+    if p.price == 0 {
         return true;
     }
-    value != s.printed
+    value != p.price
 }
 
 // More than m times 0.05 dollars above b.
@@ -132,19 +135,19 @@ fn least(a: u64, b: u64) -> u64
 }
 
 // More than level × 0.05 dollars from the last printed, above it or below.
-pub fn far_from_printed(st: Settings, s: Security, value: u64) -> bool
-    ensures { λ r. ⌜ r ≡ farFromPrinted st s value ⌝ }
+pub fn far_from_printed(st: Settings, p: Printed, value: u64) -> bool
+    ensures { λ r. ⌜ r ≡ farFromPrinted st p value ⌝ }
 {
-    if s.printed == 0 {
+    if p.price == 0 {
         return false;
     }
-    far_above(most(value, s.printed), least(value, s.printed), st.minimum)
+    far_above(most(value, p.price), least(value, p.price), st.minimum)
 }
 
 // Qualifying for last with a price unlike the last printed.
-pub fn last_unlike(s: Security, x: Side) -> bool
+pub fn last_unlike(p: Printed, x: Side) -> bool
     requires { ⌜ Sound (x .price) ⌝ }
-    ensures { λ r. ⌜ r ≡ lastUnlike s x ⌝ }
+    ensures { λ r. ⌜ r ≡ lastUnlike p x ⌝ }
 {
     let letters = x.letters;
     let price = x.price;
@@ -152,13 +155,13 @@ pub fn last_unlike(s: Security, x: Side) -> bool
         return false;
     }
     let value = print_price::in_units(price);
-    unlike_printed(s, value)
+    unlike_printed(p, value)
 }
 
 // Qualifying for last and far from the last printed.
-pub fn last_far(st: Settings, s: Security, x: Side) -> bool
+pub fn last_far(st: Settings, p: Printed, x: Side) -> bool
     requires { ⌜ Sound (x .price) ⌝ }
-    ensures { λ r. ⌜ r ≡ lastFar st s x ⌝ }
+    ensures { λ r. ⌜ r ≡ lastFar st p x ⌝ }
 {
     let letters = x.letters;
     let price = x.price;
@@ -166,7 +169,7 @@ pub fn last_far(st: Settings, s: Security, x: Side) -> bool
         return false;
     }
     let value = print_price::in_units(price);
-    far_from_printed(st, s, value)
+    far_from_printed(st, p, value)
 }
 
 // ---- full price and volume, outside normal

@@ -8,13 +8,17 @@ use Rattle.rules.specs.declared.Mode.{Mode}
 use Rattle.rules.specs.declared.Mode.the-variants.{Normal, Dvd, Rpo, Mpv}
 use Rattle.rules.specs.declared.Side.{Side}
 use Rattle.rules.specs.declared.Settings.{Settings}
+use Rattle.rules.specs.declared.Issue.{Issue}
+use Rattle.rules.specs.declared.Printed.{Printed}
+use Rattle.rules.specs.declared.Range.{Range}
+use Rattle.rules.specs.declared.Counts.{Counts}
 use Rattle.rules.specs.declared.Security.{Security}
 use Rattle.rules.specs.Price.{wholePart, units}
 use Rattle.rules.specs.Conditions.{hasRule}
 use Rattle.rules.specs.Qualifying.{forRange, forLast}
-use Rattle.rules.specs.Trade.{firstQualifying, newHigh, newLow, newRange, fullPrice, showsVolume, printsAnyhow, printsTrade, tradeFull, tradeShows, highAfter, lowAfter, lastAfter, counted, afterTrade}
+use Rattle.rules.specs.Trade.{firstQualifying, newHigh, newLow, newRange, fullPrice, showsVolume, printsAnyhow, printsTrade, tradeFull, tradeShows, rangeAfter, printedAfter, counted, countsAfter, afterTrade}
 use Rattle.decide_levels.specs.Parts.{newAt}
-use Rattle.decide_trade.specs.Value.{firstBy, anyhowBy, rpoBy, mpvBy, byMode, printsBy, fullBy, showsBy, afterBy}
+use Rattle.decide_trade.specs.Value.{firstBy, anyhowBy, rpoBy, mpvBy, byMode, printsBy, fullBy, showsBy, rangeBy, printedBy, countsBy, afterBy}
 
 -- ---- by mode
 
@@ -53,7 +57,7 @@ module _ (st : Settings) (s : Security) (market : ℕ) (x : Side) where
   shows-is = refl
 
   pub after-is : afterTrade st s market x ≡ afterBy s market (units (x .price)) (printsTrade st s market x) (forRange (x .letters)) (forLast (x .letters))
-  unfolding afterTrade afterBy highAfter lowAfter lastAfter
+  unfolding afterTrade afterBy rangeAfter rangeBy printedAfter printedBy countsAfter countsBy
   after-is = refl
 
   -- with values as callees answered them
@@ -69,18 +73,38 @@ module _ (st : Settings) (s : Security) (market : ℕ) (x : Side) where
   pub side-after : (value : ℕ) (prints ranges lasts : Bool) (r : Security) → value ≡ units (x .price) → prints ≡ printsTrade st s market x → ranges ≡ forRange (x .letters) → lasts ≡ forLast (x .letters) → r ≡ afterBy s market value prints ranges lasts → r ≡ afterTrade st s market x
   side-after value prints ranges lasts r v p q l e = rw (after-is, ← v, ← p, ← q, ← l) e
 
--- ---- the security after it
+-- ---- the security after it, part by part, with what callees answered
 
-pub after-moved : (s : Security) (market value : ℕ) (prints ranges lasts highest lowest : Bool) (printed high low last trades qualified primaries : ℕ)
-    → highest ≡ newHigh s value
-    → lowest ≡ newLow s value
-    → printed ≡ pick (true && prints) value (s .printed)
-    → high ≡ pick (ranges && highest) value (s .high)
-    → low ≡ pick (ranges && lowest) value (s .low)
-    → last ≡ pick (true && lasts) value (s .last)
-    → trades ≡ counted true 5 (s .trades)
-    → qualified ≡ counted lasts 1 (s .qualified)
-    → primaries ≡ counted (eqb market (s .market)) 6 (s .primaries)
-    → (record { unit = s .unit; network = s .network; market = s .market; first = s .first; printed = printed; high = high; low = low; last = last; trades = trades; qualified = qualified; primaries = primaries }) ≡ afterBy s market value prints ranges lasts
+pub range-moved : (r : Range) (value : ℕ) (ranges lasts highest lowest : Bool) (high low last : ℕ)
+    → highest ≡ newHigh r value
+    → lowest ≡ newLow r value
+    → high ≡ pick (ranges && highest) value (r .high)
+    → low ≡ pick (ranges && lowest) value (r .low)
+    → last ≡ pick (true && lasts) value (r .last)
+    → record { high = high; low = low; last = last } ≡ rangeBy r value ranges lasts
+unfolding rangeBy
+range-moved r value ranges lasts highest lowest high low last h w e f g = rw (e, f, g, h, w)
+
+pub range-side : (r a : Range) (x : Side) (value : ℕ) (ranges lasts : Bool) → value ≡ units (x .price) → ranges ≡ forRange (x .letters) → lasts ≡ forLast (x .letters) → a ≡ rangeBy r value ranges lasts → a ≡ rangeAfter r x
+unfolding rangeAfter rangeBy
+range-side r a x value ranges lasts v q l e = rw (← v, ← q, ← l) e
+
+pub printed-moved : (p : Printed) (value price : ℕ) (prints : Bool) → price ≡ pick (true && prints) value (p .price) → record { price = price } ≡ printedBy p value prints
+unfolding printedBy
+printed-moved p value price prints e = rw e
+
+pub counts-moved : (i : Issue) (c : Counts) (market : ℕ) (lasts : Bool) (trades qualified primaries : ℕ)
+    → trades ≡ counted true 5 (c .trades)
+    → qualified ≡ counted lasts 1 (c .qualified)
+    → primaries ≡ counted (eqb market (i .market)) 6 (c .primaries)
+    → record { trades = trades; qualified = qualified; primaries = primaries } ≡ countsBy i c market lasts
+unfolding countsBy
+counts-moved i c market lasts trades qualified primaries e f g = rw (e, f, g)
+
+pub after-moved : (s : Security) (market value : ℕ) (prints ranges lasts : Bool) (printed : Printed) (range : Range) (counts : Counts)
+    → printed ≡ printedBy (s .printed) value prints
+    → range ≡ rangeBy (s .range) value ranges lasts
+    → counts ≡ countsBy (s .issue) (s .counts) market lasts
+    → record { issue = s .issue; printed = printed; range = range; counts = counts } ≡ afterBy s market value prints ranges lasts
 unfolding afterBy
-after-moved s market value prints ranges lasts highest lowest printed high low last trades qualified primaries h w e1 e2 e3 e4 e5 e6 e7 = rw (e1, e2, e3, e4, e5, e6, e7, h, w)
+after-moved s market value prints ranges lasts printed range counts e f g = rw (e, f, g)

@@ -6,23 +6,27 @@ use Rattle.text.specs.Pick.{pick}
 use Rattle.rules.specs.declared.Mode.{Mode}
 use Rattle.rules.specs.declared.Mode.the-variants.{Normal, Dvd, Rpo, Mpv}
 use Rattle.rules.specs.declared.Settings.{Settings}
+use Rattle.rules.specs.declared.Issue.{Issue}
+use Rattle.rules.specs.declared.Printed.{Printed}
+use Rattle.rules.specs.declared.Range.{Range}
+use Rattle.rules.specs.declared.Counts.{Counts}
 use Rattle.rules.specs.declared.Security.{Security}
 use Rattle.rules.specs.Trade.{six, atLevel, newHigh, newLow, unlikePrinted, farFromPrinted, isNormal, fullAt, counted}
 use Rattle.decide_levels.specs.Parts.{newAt}
 
 -- the first trade qualifying for last
-unfoldable pub firstBy : Security → Bool → Bool
-firstBy s lasts = lasts && eqb (s .qualified) 0
+unfoldable pub firstBy : Counts → Bool → Bool
+firstBy c lasts = lasts && eqb (c .qualified) 0
 
 -- six; at the level; unit 1; J or G
 unfoldable pub anyhowBy : Settings → Security → ℕ → ℕ → Bool → Bool
-anyhowBy st s market volume rule = six s market || (atLevel st volume || (eqb (s .unit) 1 || rule))
+anyhowBy st s market volume rule = six s market || (atLevel st volume || (eqb (s .issue .unit) 1 || rule))
 
 unfoldable pub rpoBy : Settings → Security → ℕ → ℕ → ℕ → Bool → Bool → Bool → Bool
-rpoBy st s market volume value ranges lasts rule = (ranges && newAt s value) || ((lasts && unlikePrinted s value) || anyhowBy st s market volume rule)
+rpoBy st s market volume value ranges lasts rule = (ranges && newAt (s .range) value) || ((lasts && unlikePrinted (s .printed) value) || anyhowBy st s market volume rule)
 
 unfoldable pub mpvBy : Settings → Security → ℕ → ℕ → ℕ → Bool → Bool → Bool
-mpvBy st s market volume value lasts rule = (lasts && farFromPrinted st s value) || (firstBy s lasts || anyhowBy st s market volume rule)
+mpvBy st s market volume value lasts rule = (lasts && farFromPrinted st (s .printed) value) || (firstBy (s .counts) lasts || anyhowBy st s market volume rule)
 
 -- every trade in normal and DVD
 unfoldable pub byMode : Mode → Bool → Bool → Bool
@@ -36,20 +40,30 @@ unfoldable pub fullBy : Settings → Security → ℕ → ℕ → Bool
 fullBy st s market whole = isNormal (st .mode) || fullAt s market whole
 
 unfoldable pub showsBy : Settings → Security → ℕ → ℕ → Bool → Bool → Bool
-showsBy st s market volume lasts rule = isNormal (st .mode) || (atLevel st volume || (firstBy s lasts || (six s market || rule)))
+showsBy st s market volume lasts rule = isNormal (st .mode) || (atLevel st volume || (firstBy (s .counts) lasts || (six s market || rule)))
 
--- the security after it
+-- the security after it, part by part
+unfoldable pub rangeBy : Range → ℕ → Bool → Bool → Range
+rangeBy r value ranges lasts = record {
+  high = pick (ranges && newHigh r value) value (r .high);
+  low = pick (ranges && newLow r value) value (r .low);
+  last = pick lasts value (r .last);
+}
+
+unfoldable pub printedBy : Printed → ℕ → Bool → Printed
+printedBy p value prints = record { price = pick prints value (p .price) }
+
+unfoldable pub countsBy : Issue → Counts → ℕ → Bool → Counts
+countsBy i c market lasts = record {
+  trades = counted true 5 (c .trades);
+  qualified = counted lasts 1 (c .qualified);
+  primaries = counted (eqb market (i .market)) 6 (c .primaries);
+}
+
 unfoldable pub afterBy : Security → ℕ → ℕ → Bool → Bool → Bool → Security
 afterBy s market value prints ranges lasts = record {
-  unit = s .unit;
-  network = s .network;
-  market = s .market;
-  first = s .first;
-  printed = pick prints value (s .printed);
-  high = pick (ranges && newHigh s value) value (s .high);
-  low = pick (ranges && newLow s value) value (s .low);
-  last = pick lasts value (s .last);
-  trades = counted true 5 (s .trades);
-  qualified = counted lasts 1 (s .qualified);
-  primaries = counted (eqb market (s .market)) 6 (s .primaries);
+  issue = s .issue;
+  printed = printedBy (s .printed) value prints;
+  range = rangeBy (s .range) value ranges lasts;
+  counts = countsBy (s .issue) (s .counts) market lasts;
 }

@@ -2,7 +2,11 @@
 // decided over what they ask of a trade, each worked out once by the caller: its volume, its price in units (`value`), its whole
 // part, whether it qualifies for range (`ranges`) and for last (`lasts`), whether it has J or G (`rule`). Settings and securities
 // may hold any numbers.
+use rules::Counts;
+use rules::Issue;
 use rules::Mode;
+use rules::Printed;
+use rules::Range;
 use rules::Security;
 use rules::Settings;
 use rules::Side;
@@ -11,51 +15,51 @@ ghost use mathlib.Core.Bool.{_&&_};
 ghost use Prim.Native.Nat.{_+_, _<_};
 ghost use Rattle.text.specs.Pick.{pick};
 ghost use Rattle.rules.specs.Price.{units};
-ghost use Rattle.rules.specs.Trade.{unlikePrinted, farFromPrinted, fullAt, printsTrade, highAfter, lowAfter, lastAfter, counted};
+ghost use Rattle.rules.specs.Trade.{unlikePrinted, farFromPrinted, fullAt, printsTrade, rangeAfter, counted};
 ghost use Rattle.print_price.specs.Sound.{Sound};
 ghost use Rattle.decide_levels.specs.Parts.{newAt};
-ghost use Rattle.decide_trade.specs.Value.{firstBy, anyhowBy, rpoBy, mpvBy, printsBy, fullBy, showsBy, afterBy};
+ghost use Rattle.decide_trade.specs.Value.{firstBy, anyhowBy, rpoBy, mpvBy, printsBy, fullBy, showsBy, rangeBy, printedBy, countsBy, afterBy};
 
 // ---- what prints
 
 // A new high or low by a trade that qualifies for them.
-fn makes_range(s: Security, value: u64, ranges: bool) -> bool
-    ensures { λ r. ⌜ r ≡ (ranges && newAt s value) ⌝ }
+fn makes_range(held: Range, value: u64, ranges: bool) -> bool
+    ensures { λ r. ⌜ r ≡ (ranges && newAt held value) ⌝ }
 {
     if !ranges {
         return false;
     }
-    decide_levels::new_at(s, value)
+    decide_levels::new_at(held, value)
 }
 
 // Qualifying for last with a price unlike the last printed, or none printed.
-fn is_unlike(s: Security, value: u64, lasts: bool) -> bool
-    ensures { λ r. ⌜ r ≡ (lasts && unlikePrinted s value) ⌝ }
+fn is_unlike(p: Printed, value: u64, lasts: bool) -> bool
+    ensures { λ r. ⌜ r ≡ (lasts && unlikePrinted p value) ⌝ }
 {
     if !lasts {
         return false;
     }
-    decide_levels::unlike_printed(s, value)
+    decide_levels::unlike_printed(p, value)
 }
 
 // Qualifying for last and far from the last printed.
-fn is_far(st: Settings, s: Security, value: u64, lasts: bool) -> bool
-    ensures { λ r. ⌜ r ≡ (lasts && farFromPrinted st s value) ⌝ }
+fn is_far(st: Settings, p: Printed, value: u64, lasts: bool) -> bool
+    ensures { λ r. ⌜ r ≡ (lasts && farFromPrinted st p value) ⌝ }
 {
     if !lasts {
         return false;
     }
-    decide_levels::far_from_printed(st, s, value)
+    decide_levels::far_from_printed(st, p, value)
 }
 
 // The first trade qualifying for last.
-fn is_first(s: Security, lasts: bool) -> bool
-    ensures { λ r. ⌜ r ≡ firstBy s lasts ⌝ }
+fn is_first(c: Counts, lasts: bool) -> bool
+    ensures { λ r. ⌜ r ≡ firstBy c lasts ⌝ }
 {
     if !lasts {
         return false;
     }
-    s.qualified == 0
+    c.qualified == 0
 }
 
 // Six; at the level; unit 1; J or G.
@@ -68,7 +72,7 @@ fn prints_anyhow(st: Settings, s: Security, market: u64, volume: u64, rule: bool
     if decide_levels::at_level(st, volume) {
         return true; // at the level
     }
-    if s.unit == 1 {
+    if s.issue.unit == 1 {
         return true; // unit 1
     }
     rule // J or G
@@ -86,10 +90,12 @@ fn prints_rpo(
 ) -> bool
     ensures { λ r. ⌜ r ≡ rpoBy st s market volume value ranges lasts rule ⌝ }
 {
-    if makes_range(s, value, ranges) {
+    let held = s.range;
+    let printed = s.printed;
+    if makes_range(held, value, ranges) {
         return true; // a new high or low
     }
-    if is_unlike(s, value, lasts) {
+    if is_unlike(printed, value, lasts) {
         return true; // unlike the last printed
     }
     prints_anyhow(st, s, market, volume, rule)
@@ -106,10 +112,12 @@ fn prints_mpv(
 ) -> bool
     ensures { λ r. ⌜ r ≡ mpvBy st s market volume value lasts rule ⌝ }
 {
-    if is_far(st, s, value, lasts) {
+    let printed = s.printed;
+    let counts = s.counts;
+    if is_far(st, printed, value, lasts) {
         return true; // far from the last printed
     }
-    if is_first(s, lasts) {
+    if is_first(counts, lasts) {
         return true; // the first that qualifies
     }
     prints_anyhow(st, s, market, volume, rule)
@@ -158,16 +166,16 @@ pub fn prints_trade(st: Settings, s: Security, market: u64, x: Side) -> bool
 fn full_at(s: Security, market: u64, whole: u64) -> bool
     ensures { λ r. ⌜ r ≡ fullAt s market whole ⌝ }
 {
-    if s.printed == 0 {
+    if s.printed.price == 0 {
         return true;
     }
-    if decide_levels::other_tens(whole, s.printed) {
+    if decide_levels::other_tens(whole, s.printed.price) {
         return true;
     }
     if decide_levels::ends_in_zero(whole) {
         return true;
     }
-    if s.unit == 1 {
+    if s.issue.unit == 1 {
         return true;
     }
     if 1000 <= whole {
@@ -199,13 +207,14 @@ pub fn shows_by(
     ensures { λ r. ⌜ r ≡ showsBy st s market volume lasts rule ⌝ }
 {
     let mode = st.mode;
+    let counts = s.counts;
     if decide_levels::is_normal(mode) {
         return true;
     }
     if decide_levels::at_level(st, volume) {
         return true; // shown: at the level
     }
-    if is_first(s, lasts) {
+    if is_first(counts, lasts) {
         return true; // shown: the first that qualifies
     }
     if decide_levels::six(s, market) {
@@ -214,7 +223,7 @@ pub fn shows_by(
     rule // shown: J or G
 }
 
-// ---- high, low and last follow every accepted trade, and each correcting trade
+// ---- what an accepted line leaves of its security, part by part
 
 // A price that moves where the trade qualifies and its value is new.
 fn moved(qualifies: bool, new: bool, value: u64, held: u64) -> u64
@@ -229,46 +238,42 @@ fn moved(qualifies: bool, new: bool, value: u64, held: u64) -> u64
     value
 }
 
-pub fn high_after(s: Security, x: Side) -> u64
-    requires { ⌜ Sound (x .price) ⌝ }
-    ensures { λ r. ⌜ r ≡ highAfter s x ⌝ }
+// High, low and last follow every accepted trade, and each correcting trade.
+fn range_by(held: Range, value: u64, ranges: bool, lasts: bool) -> Range
+    ensures { λ r. ⌜ r ≡ rangeBy held value ranges lasts ⌝ }
 {
-    let letters = x.letters;
-    let price = x.price;
-    let value = print_price::in_units(price);
-    moved(
-        decide_letters::for_range(letters),
-        decide_levels::new_high(s, value),
-        value,
-        s.high,
-    )
-}
-
-pub fn low_after(s: Security, x: Side) -> u64
-    requires { ⌜ Sound (x .price) ⌝ }
-    ensures { λ r. ⌜ r ≡ lowAfter s x ⌝ }
-{
-    let letters = x.letters;
-    let price = x.price;
-    let value = print_price::in_units(price);
-    moved(
-        decide_letters::for_range(letters),
-        decide_levels::new_low(s, value),
-        value,
-        s.low,
-    )
-}
-
-pub fn last_after(s: Security, x: Side) -> u64
-    requires { ⌜ Sound (x .price) ⌝ }
-    ensures { λ r. ⌜ r ≡ lastAfter s x ⌝ }
-{
-    let letters = x.letters;
-    let price = x.price; // the new last
-    if !decide_letters::for_last(letters) {
-        return s.last;
+    Range {
+        high: moved(
+            ranges,
+            decide_levels::new_high(held, value),
+            value,
+            held.high,
+        ),
+        low: moved(ranges, decide_levels::new_low(held, value), value, held.low),
+        last: moved(true, lasts, value, held.last),
     }
-    print_price::in_units(price)
+}
+
+// The same of a side.
+pub fn range_after(held: Range, x: Side) -> Range
+    requires { ⌜ Sound (x .price) ⌝ }
+    ensures { λ r. ⌜ r ≡ rangeAfter held x ⌝ }
+{
+    let letters = x.letters;
+    let price = x.price;
+    let value = print_price::in_units(price);
+    let ranges = decide_letters::for_range(letters);
+    let lasts = decide_letters::for_last(letters);
+    range_by(held, value, ranges, lasts)
+}
+
+// The last printed price, of trades only.
+fn printed_by(p: Printed, value: u64, prints: bool) -> Printed
+    ensures { λ r. ⌜ r ≡ printedBy p value prints ⌝ }
+{
+    Printed {
+        price: moved(true, prints, value, p.price),
+    }
 }
 
 // A count that stops where it no longer matters.
@@ -285,7 +290,18 @@ fn counted(test: bool, most: u64, count: u64) -> u64
     count + 1
 }
 
-// After an accepted trade: last printed price, high, low, last, counts.
+// T lines only, printed or not.
+fn counts_by(i: Issue, c: Counts, market: u64, lasts: bool) -> Counts
+    ensures { λ r. ⌜ r ≡ countsBy i c market lasts ⌝ }
+{
+    Counts {
+        trades: counted(true, 5, c.trades),
+        qualified: counted(lasts, 1, c.qualified),
+        primaries: counted(market == i.market, 6, c.primaries),
+    }
+}
+
+// After an accepted trade.
 pub fn after_by(
     s: Security,
     market: u64,
@@ -296,17 +312,14 @@ pub fn after_by(
 ) -> Security
     ensures { λ r. ⌜ r ≡ afterBy s market value prints ranges lasts ⌝ }
 {
+    let issue = s.issue;
+    let printed = s.printed;
+    let held = s.range;
+    let counts = s.counts;
     Security {
-        unit: s.unit,
-        network: s.network,
-        market: s.market,
-        first: s.first,
-        printed: moved(true, prints, value, s.printed),
-        high: moved(ranges, decide_levels::new_high(s, value), value, s.high),
-        low: moved(ranges, decide_levels::new_low(s, value), value, s.low),
-        last: moved(true, lasts, value, s.last),
-        trades: counted(true, 5, s.trades),
-        qualified: counted(lasts, 1, s.qualified),
-        primaries: counted(market == s.market, 6, s.primaries),
+        issue: issue,
+        printed: printed_by(printed, value, prints),
+        range: range_by(held, value, ranges, lasts),
+        counts: counts_by(issue, counts, market, lasts),
     }
 }

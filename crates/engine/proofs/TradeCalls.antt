@@ -163,14 +163,14 @@ module _ (st : Settings) (line : List ℕ) (t : TradeLine) (h : GoodCall st line
       -- ---- of an entered security
 
       module _ (q : Bool) (told : q ≡ isEntered s) (entered : not q ≡ false) where
-        pub some-unit : 1 ≤ s .unit
+        pub some-unit : 1 ≤ s .issue .unit
         some-unit = has-unit s (ap not (sym told) ∙ entered)
 
-        on-plan : onNetwork (s .network) (t .letters) ≡ true → planOf st table names line ≡ Print (printPlan st s trade)
+        on-plan : onNetwork (s .issue .network) (t .letters) ≡ true → planOf st table names line ≡ Print (printPlan st s trade)
         unfolding tradePlan unlessStopped pick
         on-plan n = through ∙ rw (← told, entered, n)
 
-        off-plan : onNetwork (s .network) (t .letters) ≡ false → planOf st table names line ≡ Stop Conditions
+        off-plan : onNetwork (s .issue .network) (t .letters) ≡ false → planOf st table names line ≡ Stop Conditions
         unfolding tradePlan unlessStopped pick
         off-plan n = through ∙ rw (← told, entered, n)
 
@@ -188,14 +188,14 @@ module _ (st : Settings) (line : List ℕ) (t : TradeLine) (h : GoodCall st line
         unfolding asked fittedOf printOf
         fits-is room e = rw e (ap (λ (l : List ℕ). isTrade (pick (ltb room (length l)) (Stop Room) (Print plan))) text-is ∙ print-if (length text) room plan (leb (length text) room) refl)
 
-        accepts-is : (room : ℕ) → isTrade (asked st table names line room) ≡ (onNetwork (s .network) (t .letters) && leb (length text) room)
-        accepts-is room = go (onNetwork (s .network) (t .letters)) refl
+        accepts-is : (room : ℕ) → isTrade (asked st table names line room) ≡ (onNetwork (s .issue .network) (t .letters) && leb (length text) room)
+        accepts-is room = go (onNetwork (s .issue .network) (t .letters)) refl
           where
-            go : (b : Bool) → onNetwork (s .network) (t .letters) ≡ b → isTrade (asked st table names line room) ≡ (b && leb (length text) room)
+            go : (b : Bool) → onNetwork (s .issue .network) (t .letters) ≡ b → isTrade (asked st table names line room) ≡ (b && leb (length text) room)
             go true n = fits-is room (on-plan n)
             go false n = stops Conditions room (off-plan n)
 
-        module _ (tape table′ tape′ : List ℕ) (k : ℕ) (n : onNetwork (s .network) (t .letters) ≡ true) (e : table′ ≡ withRow table (t .security - 1) (afterTrade st s (t .market) (sideIn t))) (w : Written text tape tape′ k) where
+        module _ (tape table′ tape′ : List ℕ) (k : ℕ) (n : onNetwork (s .issue .network) (t .letters) ≡ true) (e : table′ ≡ withRow table (t .security - 1) (afterTrade st s (t .market) (sideIn t))) (w : Written text tape tape′ k) where
           fits : length (printOf st names (Print plan)) ≤ length tape
           fits = omega (arith, ap length text-is, w .count-is, w .within)
 
@@ -233,7 +233,7 @@ module _ (st : Settings) (line : List ℕ) (t : TradeLine) (h : GoodCall st line
         carried tape table′ tape′ r c = record {
           accepts = c .taken-is ∙ sym (accepts-is (length tape));
           shaped = λ y. is-shaped;
-          taken-is = λ y. taken tape table′ tape′ (r .length) (and-left (onNetwork (s .network) (t .letters)) _ (sym (c .taken-is) ∙ y)) (c .stored y) (c .printed y);
+          taken-is = λ y. taken tape table′ tape′ (r .length) (and-left (onNetwork (s .issue .network) (t .letters)) _ (sym (c .taken-is) ∙ y)) (c .stored y) (c .printed y);
           table-same = c .untouched;
           tape-same = c .unprinted;
           no-length = c .no-length;

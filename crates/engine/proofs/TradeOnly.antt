@@ -194,7 +194,7 @@ module _ (st : Settings) (table names line : List ℕ) (h : isTrade (planOf st t
   unfolding linePlan
   on-trade = rw line-is at on-line
 
-  a-law : (t .lawful && onNetwork (s .network) (t .side .letters)) ≡ true
+  a-law : (t .lawful && onNetwork (s .issue .network) (t .side .letters)) ≡ true
   unfolding tradePlan unlessStopped isTrade
   a-law = not-false _ (off _ _ _ refl (other _ _ _ refl on-trade))
 

@@ -63,13 +63,13 @@ trade-in-full st s market x = go (isNormal (st .mode))
   where
     go : (n : Bool) → someFull (pick n inNormal (fullBy s market (wholePart (x .price)))) ≡ (n || fullPrice s market x)
     go true = refl
-    go false = full-exactly (eqb (s .printed) 0) (not (eqb (tens (wholePart (x .price))) (tens (dollars (s .printed))))) (endsInZero (wholePart (x .price))) (eqb (s .unit) 1) (leb 1000 (wholePart (x .price))) (rules.six s market)
+    go false = full-exactly (eqb (s .printed .price) 0) (not (eqb (tens (wholePart (x .price))) (tens (dollars (s .printed .price))))) (endsInZero (wholePart (x .price))) (eqb (s .issue .unit) 1) (leb 1000 (wholePart (x .price))) (rules.six s market)
 
 pub trade-shown : (st : Settings) (s : Security) (market : ℕ) (x : Side) → someVolume (tradeShowsBy st s market x) ≡ tradeShows st s market x
 unfolding tradeShowsBy tradeShows someVolume showsVolume pick shownInNormal
 trade-shown st s market x = go (isNormal (st .mode))
   where
-    go : (n : Bool) → someVolume (pick n shownInNormal (record { normal = false; level = atLevel st (x .volume); first = firstQualifying s (x .letters); six = rules.six s market; rule = hasRule (x .letters) })) ≡ (n || showsVolume st s market x)
+    go : (n : Bool) → someVolume (pick n shownInNormal (record { normal = false; level = atLevel st (x .volume); first = firstQualifying (s .counts) (x .letters); six = rules.six s market; rule = hasRule (x .letters) })) ≡ (n || showsVolume st s market x)
     go true = refl
     go false = refl
 
@@ -83,7 +83,7 @@ dvd-exactly false false false = refl
 
 in-dvd-exactly : (st : Settings) (s : Security) (x y : Side) → somePrint (dvdCorrection st s x y) ≡ printsInDvd st s x y
 unfolding somePrint dvdCorrection printsInDvd
-in-dvd-exactly st s x y = dvd-exactly (eqb (s .unit) 1) (hasRule (y .letters)) (pricesDiffer x y && atLevel st (y .volume))
+in-dvd-exactly st s x y = dvd-exactly (eqb (s .issue .unit) 1) (hasRule (y .letters)) (pricesDiffer x y && atLevel st (y .volume))
 
 later-exactly : (range level unit rule seller last old asked : Bool)
     → (range || (level || (unit || (rule || (seller || (last || (old || asked))))))) ≡ ((asked || rule) || (unit || (old || (level || (seller || (range || last))))))
@@ -102,12 +102,12 @@ unfolding somePrint laterCorrection printsInBoth newRange
 in-later-exactly st s x y asked =
     both-asked (forRange (y .letters)) _ _ _
     ∙ later-exactly
-    (forRange (y .letters) && (newHigh s (units (y .price)) || newLow s (units (y .price))))
+    (forRange (y .letters) && (newHigh (s .range) (units (y .price)) || newLow (s .range) (units (y .price))))
     (atLevel st (y .volume))
-    (eqb (s .unit) 1)
+    (eqb (s .issue .unit) 1)
     (hasRule (y .letters))
     ((x .letters .r || y .letters .r) && pricesDiffer x y)
-    (forLast (y .letters) && unlikeLast s (units (y .price)))
+    (forLast (y .letters) && unlikeLast (s .range) (units (y .price)))
     (atLevel st (x .volume))
     asked
 
@@ -134,9 +134,9 @@ correction-in-full st s x y = go (isNormal (st .mode))
     tens-differ : Bool
     tens-differ = not (isMpv (st .mode)) && not (eqb (tens (wholePart (x .price))) (tens (wholePart (y .price))))
 
-    go : (n : Bool) → someFull (pick n inNormal (record { normal = false; none = false; tens = tens-differ; zero = false; unit = eqb (s .unit) 1; thousand = false; six = false; whole = wholeInFull y; original = wholeInFull x })) ≡ (n || fullPrices st s x y)
+    go : (n : Bool) → someFull (pick n inNormal (record { normal = false; none = false; tens = tens-differ; zero = false; unit = eqb (s .issue .unit) 1; thousand = false; six = false; whole = wholeInFull y; original = wholeInFull x })) ≡ (n || fullPrices st s x y)
     go true = refl
-    go false = corrected-full tens-differ (eqb (s .unit) 1) (wholeInFull y) (wholeInFull x)
+    go false = corrected-full tens-differ (eqb (s .issue .unit) 1) (wholeInFull y) (wholeInFull x)
 
 pub correction-shown : (st : Settings) (x y : Side) → someVolume (correctionShowsBy st x y) ≡ correctionShows st x y
 unfolding correctionShowsBy correctionShows someVolume showsVolumes pick shownInNormal
@@ -152,7 +152,7 @@ pub cancel-in-full : (st : Settings) (s : Security) (x : Side) → someFull (can
 unfolding cancelFullBy cancelFull someFull pick inNormal
 cancel-in-full st s x = go (isNormal (st .mode))
   where
-    go : (n : Bool) → someFull (pick n inNormal (record { normal = false; none = false; tens = false; zero = false; unit = eqb (s .unit) 1; thousand = false; six = false; whole = wholeInFull x; original = false })) ≡ (n || (eqb (s .unit) 1 || wholeInFull x))
+    go : (n : Bool) → someFull (pick n inNormal (record { normal = false; none = false; tens = false; zero = false; unit = eqb (s .issue .unit) 1; thousand = false; six = false; whole = wholeInFull x; original = false })) ≡ (n || (eqb (s .issue .unit) 1 || wholeInFull x))
     go true = refl
     go false = rw (or-false (wholeInFull x))
 

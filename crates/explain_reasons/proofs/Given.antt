@@ -15,6 +15,7 @@ use Rattle.rules.specs.declared.Mode.the-variants.{Normal, Dvd, Rpo, Mpv}
 use Rattle.rules.specs.declared.Price.{Price}
 use Rattle.rules.specs.declared.Side.{Side}
 use Rattle.rules.specs.declared.Settings.{Settings}
+use Rattle.rules.specs.declared.Range.{Range}
 use Rattle.rules.specs.declared.Security.{Security}
 use Rattle.decide_levels.specs.Parts.{lastUnlike, lastFar}
 use Rattle.explain_reasons.specs.Reasons.{inMode, always, inNormal, shownInNormal, tensLeft, rpoTrade, mpvTrade, tradePrints, dvdCorrection, laterCorrection, correctionPrints, fullBy, tradeFullBy, correctionFullBy, cancelFullBy, tradeShowsBy, correctionShowsBy, cancelShowsBy}
@@ -24,11 +25,11 @@ use Rattle.explain_reasons.specs.declared.VolumeReasons.{VolumeReasons}
 
 -- ---- a price's value, as a callee answered it
 
-module _ (v : ℕ) (p : Price) (e : v ≡ units p) (s : Security) (r : Bool) where
-  pub high-value : r ≡ newHigh s v → r ≡ newHigh s (units p)
+module _ (v : ℕ) (p : Price) (e : v ≡ units p) (held : Range) (r : Bool) where
+  pub high-value : r ≡ newHigh held v → r ≡ newHigh held (units p)
   high-value h = rw (← e) h
 
-  pub low-value : r ≡ newLow s v → r ≡ newLow s (units p)
+  pub low-value : r ≡ newLow held v → r ≡ newLow held (units p)
   low-value h = rw (← e) h
 
 pub ruleset values = (high-value, low-value)
@@ -36,50 +37,50 @@ pub ruleset values = (high-value, low-value)
 -- ---- the reasons of a mode
 
 pub rpo-given : (st : Settings) (s : Security) (market : ℕ) (x : Side) (b0 b1 b2 b3 b4 b5 : Bool)
-    → b0 ≡ (forRange (x .letters) && newHigh s (units (x .price)))
-    → b1 ≡ (forRange (x .letters) && newLow s (units (x .price)))
-    → b2 ≡ lastUnlike s x
+    → b0 ≡ (forRange (x .letters) && newHigh (s .range) (units (x .price)))
+    → b1 ≡ (forRange (x .letters) && newLow (s .range) (units (x .price)))
+    → b2 ≡ lastUnlike (s .printed) x
     → b3 ≡ rules.six s market
     → b4 ≡ atLevel st (x .volume)
     → b5 ≡ hasRule (x .letters)
-    → record { every = false; high = b0; low = b1; price = b2; distance = false; first = false; six = b3; level = b4; unit = eqb (s .unit) 1; rule = b5; differ = false; seller = false; last = false; originallevel = false; originalrule = false } ≡ rpoTrade st s market x
+    → record { every = false; high = b0; low = b1; price = b2; distance = false; first = false; six = b3; level = b4; unit = eqb (s .issue .unit) 1; rule = b5; differ = false; seller = false; last = false; originallevel = false; originalrule = false } ≡ rpoTrade st s market x
 unfolding rpoTrade lastUnlike
 rpo-given st s market x b0 b1 b2 b3 b4 b5 e0 e1 e2 e3 e4 e5 = rw (e0, e1, e2, e3, e4, e5)
 
 pub mpv-given : (st : Settings) (s : Security) (market : ℕ) (x : Side) (b0 b1 b2 b3 b4 : Bool)
-    → b0 ≡ lastFar st s x
-    → b1 ≡ firstQualifying s (x .letters)
+    → b0 ≡ lastFar st (s .printed) x
+    → b1 ≡ firstQualifying (s .counts) (x .letters)
     → b2 ≡ rules.six s market
     → b3 ≡ atLevel st (x .volume)
     → b4 ≡ hasRule (x .letters)
-    → record { every = false; high = false; low = false; price = false; distance = b0; first = b1; six = b2; level = b3; unit = eqb (s .unit) 1; rule = b4; differ = false; seller = false; last = false; originallevel = false; originalrule = false } ≡ mpvTrade st s market x
+    → record { every = false; high = false; low = false; price = false; distance = b0; first = b1; six = b2; level = b3; unit = eqb (s .issue .unit) 1; rule = b4; differ = false; seller = false; last = false; originallevel = false; originalrule = false } ≡ mpvTrade st s market x
 unfolding mpvTrade lastFar
 mpv-given st s market x b0 b1 b2 b3 b4 e0 e1 e2 e3 e4 = rw (e0, e1, e2, e3, e4)
 
 pub dvd-given : (st : Settings) (s : Security) (x y : Side) (b0 b1 : Bool)
     → b0 ≡ hasRule (y .letters)
     → b1 ≡ (pricesDiffer x y && atLevel st (y .volume))
-    → record { every = false; high = false; low = false; price = false; distance = false; first = false; six = false; level = false; unit = eqb (s .unit) 1; rule = b0; differ = b1; seller = false; last = false; originallevel = false; originalrule = false } ≡ dvdCorrection st s x y
+    → record { every = false; high = false; low = false; price = false; distance = false; first = false; six = false; level = false; unit = eqb (s .issue .unit) 1; rule = b0; differ = b1; seller = false; last = false; originallevel = false; originalrule = false } ≡ dvdCorrection st s x y
 unfolding dvdCorrection
 dvd-given st s x y b0 b1 e0 e1 = rw (e0, e1)
 
 pub later-given : (st : Settings) (s : Security) (x y : Side) (asked : Bool) (b0 b1 b2 b3 b4 b5 b6 : Bool)
-    → b0 ≡ (forRange (y .letters) && newHigh s (units (y .price)))
-    → b1 ≡ (forRange (y .letters) && newLow s (units (y .price)))
+    → b0 ≡ (forRange (y .letters) && newHigh (s .range) (units (y .price)))
+    → b1 ≡ (forRange (y .letters) && newLow (s .range) (units (y .price)))
     → b2 ≡ atLevel st (y .volume)
     → b3 ≡ hasRule (y .letters)
     → b4 ≡ ((x .letters .r || y .letters .r) && pricesDiffer x y)
-    → b5 ≡ (forLast (y .letters) && unlikeLast s (units (y .price)))
+    → b5 ≡ (forLast (y .letters) && unlikeLast (s .range) (units (y .price)))
     → b6 ≡ atLevel st (x .volume)
-    → record { every = false; high = b0; low = b1; price = false; distance = false; first = false; six = false; level = b2; unit = eqb (s .unit) 1; rule = b3; differ = false; seller = b4; last = b5; originallevel = b6; originalrule = asked } ≡ laterCorrection st s x y asked
+    → record { every = false; high = b0; low = b1; price = false; distance = false; first = false; six = false; level = b2; unit = eqb (s .issue .unit) 1; rule = b3; differ = false; seller = b4; last = b5; originallevel = b6; originalrule = asked } ≡ laterCorrection st s x y asked
 unfolding laterCorrection
 later-given st s x y asked b0 b1 b2 b3 b4 b5 b6 e0 e1 e2 e3 e4 e5 e6 = rw (e0, e1, e2, e3, e4, e5, e6)
 
 pub full-given : (s : Security) (market whole : ℕ) (b0 b1 b2 : Bool)
-    → b0 ≡ tensLeft s whole
+    → b0 ≡ tensLeft (s .printed) whole
     → b1 ≡ endsInZero whole
     → b2 ≡ rules.six s market
-    → record { normal = false; none = eqb (s .printed) 0; tens = b0; zero = b1; unit = eqb (s .unit) 1; thousand = leb 1000 whole; six = b2; whole = false; original = false } ≡ fullBy s market whole
+    → record { normal = false; none = eqb (s .printed .price) 0; tens = b0; zero = b1; unit = eqb (s .issue .unit) 1; thousand = leb 1000 whole; six = b2; whole = false; original = false } ≡ fullBy s market whole
 unfolding fullBy
 full-given s market whole b0 b1 b2 e0 e1 e2 = rw (e0, e1, e2)
 
@@ -126,7 +127,7 @@ pub correction-full : (st : Settings) (s : Security) (x y : Side) (n b0 b1 b2 : 
     → b0 ≡ (not (isMpv (st .mode)) && not (eqb (tens (wholePart (x .price))) (tens (wholePart (y .price)))))
     → b1 ≡ wholeInFull y
     → b2 ≡ wholeInFull x
-    → record { normal = false; none = false; tens = b0; zero = false; unit = eqb (s .unit) 1; thousand = false; six = false; whole = b1; original = b2 } ≡ correctionFullBy st s x y
+    → record { normal = false; none = false; tens = b0; zero = false; unit = eqb (s .issue .unit) 1; thousand = false; six = false; whole = b1; original = b2 } ≡ correctionFullBy st s x y
 unfolding correctionFullBy pick
 correction-full st s x y n b0 b1 b2 e h e0 e1 e2 = rw (← e, h, e0, e1, e2)
 
@@ -136,7 +137,7 @@ cancel-normal st s x n r e h k = rw (← e, h) k
 
 pub cancel-full : (st : Settings) (s : Security) (x : Side) (n b0 : Bool) → n ≡ isNormal (st .mode) → n ≡ false
     → b0 ≡ wholeInFull x
-    → record { normal = false; none = false; tens = false; zero = false; unit = eqb (s .unit) 1; thousand = false; six = false; whole = b0; original = false } ≡ cancelFullBy st s x
+    → record { normal = false; none = false; tens = false; zero = false; unit = eqb (s .issue .unit) 1; thousand = false; six = false; whole = b0; original = false } ≡ cancelFullBy st s x
 unfolding cancelFullBy pick
 cancel-full st s x n b0 e h e0 = rw (← e, h, e0)
 
@@ -146,7 +147,7 @@ trade-shown-normal st s market x n r e h k = rw (← e, h) k
 
 pub trade-shown : (st : Settings) (s : Security) (market : ℕ) (x : Side) (n b0 b1 b2 b3 : Bool) → n ≡ isNormal (st .mode) → n ≡ false
     → b0 ≡ atLevel st (x .volume)
-    → b1 ≡ firstQualifying s (x .letters)
+    → b1 ≡ firstQualifying (s .counts) (x .letters)
     → b2 ≡ rules.six s market
     → b3 ≡ hasRule (x .letters)
     → record { normal = false; level = b0; first = b1; six = b2; rule = b3 } ≡ tradeShowsBy st s market x

@@ -13,6 +13,7 @@ use Rattle.rules.specs.declared.Mode.{Mode}
 use Rattle.rules.specs.declared.Mode.the-variants.{Normal, Dvd, Rpo, Mpv}
 use Rattle.rules.specs.declared.Side.{Side}
 use Rattle.rules.specs.declared.Settings.{Settings}
+use Rattle.rules.specs.declared.Printed.{Printed}
 use Rattle.rules.specs.declared.Security.{Security}
 use Rattle.explain_reasons.specs.declared.PrintReasons.{PrintReasons}
 use Rattle.explain_reasons.specs.declared.FullReasons.{FullReasons}
@@ -35,14 +36,14 @@ always = record { every = true; high = false; low = false; price = false; distan
 unfoldable pub rpoTrade : Settings → Security → ℕ → Side → PrintReasons
 rpoTrade st s market x = record {
   every = false;
-  high = forRange (x .letters) && newHigh s (units (x .price));
-  low = forRange (x .letters) && newLow s (units (x .price));
-  price = forLast (x .letters) && unlikePrinted s (units (x .price));
+  high = forRange (x .letters) && newHigh (s .range) (units (x .price));
+  low = forRange (x .letters) && newLow (s .range) (units (x .price));
+  price = forLast (x .letters) && unlikePrinted (s .printed) (units (x .price));
   distance = false;
   first = false;
   six = rules.six s market;
   level = atLevel st (x .volume);
-  unit = eqb (s .unit) 1;
+  unit = eqb (s .issue .unit) 1;
   rule = hasRule (x .letters);
   differ = false;
   seller = false;
@@ -58,11 +59,11 @@ mpvTrade st s market x = record {
   high = false;
   low = false;
   price = false;
-  distance = forLast (x .letters) && farFromPrinted st s (units (x .price));
-  first = firstQualifying s (x .letters);
+  distance = forLast (x .letters) && farFromPrinted st (s .printed) (units (x .price));
+  first = firstQualifying (s .counts) (x .letters);
   six = rules.six s market;
   level = atLevel st (x .volume);
-  unit = eqb (s .unit) 1;
+  unit = eqb (s .issue .unit) 1;
   rule = hasRule (x .letters);
   differ = false;
   seller = false;
@@ -85,7 +86,7 @@ dvdCorrection st s original correcting = record {
   first = false;
   six = false;
   level = false;
-  unit = eqb (s .unit) 1;
+  unit = eqb (s .issue .unit) 1;
   rule = hasRule (correcting .letters);
   differ = pricesDiffer original correcting && atLevel st (correcting .volume);
   seller = false;
@@ -98,18 +99,18 @@ dvdCorrection st s original correcting = record {
 unfoldable pub laterCorrection : Settings → Security → Side → Side → Bool → PrintReasons
 laterCorrection st s original correcting asked = record {
   every = false;
-  high = forRange (correcting .letters) && newHigh s (units (correcting .price));
-  low = forRange (correcting .letters) && newLow s (units (correcting .price));
+  high = forRange (correcting .letters) && newHigh (s .range) (units (correcting .price));
+  low = forRange (correcting .letters) && newLow (s .range) (units (correcting .price));
   price = false;
   distance = false;
   first = false;
   six = false;
   level = atLevel st (correcting .volume);
-  unit = eqb (s .unit) 1;
+  unit = eqb (s .issue .unit) 1;
   rule = hasRule (correcting .letters);
   differ = false;
   seller = (original .letters .r || correcting .letters .r) && pricesDiffer original correcting;
-  last = forLast (correcting .letters) && unlikeLast s (units (correcting .price));
+  last = forLast (correcting .letters) && unlikeLast (s .range) (units (correcting .price));
   originallevel = atLevel st (original .volume);
   originalrule = asked;
 }
@@ -127,17 +128,17 @@ unfoldable pub inNormal : FullReasons
 inNormal = record { normal = true; none = false; tens = false; zero = false; unit = false; thousand = false; six = false; whole = false; original = false }
 
 -- tens or higher differ from the last printed price, where there is one
-unfoldable pub tensLeft : Security → ℕ → Bool
-tensLeft s whole = not (eqb (s .printed) 0) && not (eqb (tens whole) (tens (dollars (s .printed))))
+unfoldable pub tensLeft : Printed → ℕ → Bool
+tensLeft p whole = not (eqb (p .price) 0) && not (eqb (tens whole) (tens (dollars (p .price))))
 
 -- a trade outside normal
 unfoldable pub fullBy : Security → ℕ → ℕ → FullReasons
 fullBy s market whole = record {
   normal = false;
-  none = eqb (s .printed) 0;
-  tens = tensLeft s whole;
+  none = eqb (s .printed .price) 0;
+  tens = tensLeft (s .printed) whole;
   zero = endsInZero whole;
-  unit = eqb (s .unit) 1;
+  unit = eqb (s .issue .unit) 1;
   thousand = leb 1000 whole;
   six = rules.six s market;
   whole = false;
@@ -153,7 +154,7 @@ correctionFullBy st s original correcting = pick (isNormal (st .mode)) inNormal 
   none = false;
   tens = not (isMpv (st .mode)) && not (eqb (tens (wholePart (original .price))) (tens (wholePart (correcting .price))));
   zero = false;
-  unit = eqb (s .unit) 1;
+  unit = eqb (s .issue .unit) 1;
   thousand = false;
   six = false;
   whole = wholeInFull correcting;
@@ -166,7 +167,7 @@ cancelFullBy st s x = pick (isNormal (st .mode)) inNormal (record {
   none = false;
   tens = false;
   zero = false;
-  unit = eqb (s .unit) 1;
+  unit = eqb (s .issue .unit) 1;
   thousand = false;
   six = false;
   whole = wholeInFull x;
@@ -182,7 +183,7 @@ unfoldable pub tradeShowsBy : Settings → Security → ℕ → Side → VolumeR
 tradeShowsBy st s market x = pick (isNormal (st .mode)) shownInNormal (record {
   normal = false;
   level = atLevel st (x .volume);
-  first = firstQualifying s (x .letters);
+  first = firstQualifying (s .counts) (x .letters);
   six = rules.six s market;
   rule = hasRule (x .letters);
 })

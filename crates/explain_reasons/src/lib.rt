@@ -1,6 +1,8 @@
 // Why an accepted trade, correction, cancel or error prints, why its price is in full and why its volume is shown. A reason is
 // one test of document 01, true in the modes that ask it. Settings and securities may hold any numbers.
 use rules::Mode;
+use rules::Printed;
+use rules::Range;
 use rules::Security;
 use rules::Settings;
 use rules::Side;
@@ -83,9 +85,9 @@ pub fn always() -> PrintReasons
 }
 
 // A new high by a trade that qualifies for it.
-fn makes_high(s: Security, x: Side) -> bool
+fn makes_high(held: Range, x: Side) -> bool
     requires { ⌜ Sound (x .price) ⌝ }
-    ensures { λ r. ⌜ r ≡ (forRange (x .letters) && newHigh s (units (x .price))) ⌝ }
+    ensures { λ r. ⌜ r ≡ (forRange (x .letters) && newHigh held (units (x .price))) ⌝ }
 {
     let letters = x.letters;
     let price = x.price;
@@ -93,13 +95,13 @@ fn makes_high(s: Security, x: Side) -> bool
         return false;
     }
     let value = print_price::in_units(price);
-    decide_levels::new_high(s, value)
+    decide_levels::new_high(held, value)
 }
 
 // A new low by a trade that qualifies for it.
-fn makes_low(s: Security, x: Side) -> bool
+fn makes_low(held: Range, x: Side) -> bool
     requires { ⌜ Sound (x .price) ⌝ }
-    ensures { λ r. ⌜ r ≡ (forRange (x .letters) && newLow s (units (x .price))) ⌝ }
+    ensures { λ r. ⌜ r ≡ (forRange (x .letters) && newLow held (units (x .price))) ⌝ }
 {
     let letters = x.letters;
     let price = x.price;
@@ -107,7 +109,7 @@ fn makes_low(s: Security, x: Side) -> bool
         return false;
     }
     let value = print_price::in_units(price);
-    decide_levels::new_low(s, value)
+    decide_levels::new_low(held, value)
 }
 
 fn rpo_trade(st: Settings, s: Security, market: u64, x: Side) -> PrintReasons
@@ -115,16 +117,18 @@ fn rpo_trade(st: Settings, s: Security, market: u64, x: Side) -> PrintReasons
     ensures { λ r. ⌜ r ≡ rpoTrade st s market x ⌝ }
 {
     let letters = x.letters;
+    let held = s.range;
+    let printed = s.printed;
     PrintReasons {
         every: false,
-        high: makes_high(s, x),
-        low: makes_low(s, x),
-        price: decide_levels::last_unlike(s, x),
+        high: makes_high(held, x),
+        low: makes_low(held, x),
+        price: decide_levels::last_unlike(printed, x),
         distance: false,
         first: false,
         six: decide_levels::six(s, market),
         level: decide_levels::at_level(st, x.volume),
-        unit: s.unit == 1,
+        unit: s.issue.unit == 1,
         rule: decide_letters::has_rule(letters),
         differ: false,
         seller: false,
@@ -139,16 +143,18 @@ fn mpv_trade(st: Settings, s: Security, market: u64, x: Side) -> PrintReasons
     ensures { λ r. ⌜ r ≡ mpvTrade st s market x ⌝ }
 {
     let letters = x.letters;
+    let printed = s.printed;
+    let counts = s.counts;
     PrintReasons {
         every: false,
         high: false,
         low: false,
         price: false,
-        distance: decide_levels::last_far(st, s, x),
-        first: decide_levels::first_qualifying(s, letters),
+        distance: decide_levels::last_far(st, printed, x),
+        first: decide_levels::first_qualifying(counts, letters),
         six: decide_levels::six(s, market),
         level: decide_levels::at_level(st, x.volume),
-        unit: s.unit == 1,
+        unit: s.issue.unit == 1,
         rule: decide_letters::has_rule(letters),
         differ: false,
         seller: false,
@@ -186,7 +192,7 @@ fn dvd_correction(st: Settings, s: Security, x: Side, y: Side) -> PrintReasons
         first: false,
         six: false,
         level: false,
-        unit: s.unit == 1,
+        unit: s.issue.unit == 1,
         rule: decide_letters::has_rule(letters),
         differ: decide_correction::differs_at_level(st, x, y),
         seller: false,
@@ -202,20 +208,21 @@ fn later_correction(st: Settings, s: Security, x: Side, y: Side, asked: bool) ->
     ensures { λ r. ⌜ r ≡ laterCorrection st s x y asked ⌝ }
 {
     let letters = y.letters;
+    let held = s.range;
     PrintReasons {
         every: false,
-        high: makes_high(s, y),
-        low: makes_low(s, y),
+        high: makes_high(held, y),
+        low: makes_low(held, y),
         price: false,
         distance: false,
         first: false,
         six: false,
         level: decide_levels::at_level(st, y.volume),
-        unit: s.unit == 1,
+        unit: s.issue.unit == 1,
         rule: decide_letters::has_rule(letters),
         differ: false,
         seller: decide_correction::seller_differs(x, y),
-        last: decide_correction::moves_last(s, y),
+        last: decide_correction::moves_last(held, y),
         originallevel: decide_levels::at_level(st, x.volume),
         originalrule: asked,
     }
@@ -256,24 +263,25 @@ fn in_normal() -> FullReasons
 }
 
 // Tens or higher differ from the last printed price, where one is printed.
-fn tens_left(s: Security, whole: u64) -> bool
-    ensures { λ r. ⌜ r ≡ tensLeft s whole ⌝ }
+fn tens_left(p: Printed, whole: u64) -> bool
+    ensures { λ r. ⌜ r ≡ tensLeft p whole ⌝ }
 {
-    if s.printed == 0 {
+    if p.price == 0 {
         return false;
     }
-    decide_levels::other_tens(whole, s.printed)
+    decide_levels::other_tens(whole, p.price)
 }
 
 fn full_by(s: Security, market: u64, whole: u64) -> FullReasons
     ensures { λ r. ⌜ r ≡ fullBy s market whole ⌝ }
 {
+    let printed = s.printed;
     FullReasons {
         normal: false,
-        none: s.printed == 0,
-        tens: tens_left(s, whole),
+        none: printed.price == 0,
+        tens: tens_left(printed, whole),
         zero: decide_levels::ends_in_zero(whole),
-        unit: s.unit == 1,
+        unit: s.issue.unit == 1,
         thousand: 1000 <= whole,
         six: decide_levels::six(s, market),
         whole: false,
@@ -309,7 +317,7 @@ pub fn correction_full_by(st: Settings, s: Security, x: Side, y: Side) -> FullRe
         none: false,
         tens: decide_correction::full_by_tens(st, x, y),
         zero: false,
-        unit: s.unit == 1,
+        unit: s.issue.unit == 1,
         thousand: false,
         six: false,
         whole: decide_correction::whole_in_full(y),
@@ -331,7 +339,7 @@ pub fn cancel_full_by(st: Settings, s: Security, x: Side) -> FullReasons
         none: false,
         tens: false,
         zero: false,
-        unit: s.unit == 1,
+        unit: s.issue.unit == 1,
         thousand: false,
         six: false,
         whole: decide_correction::whole_in_full(x),
@@ -359,13 +367,14 @@ pub fn trade_shows_by(st: Settings, s: Security, market: u64, x: Side) -> Volume
 {
     let mode = st.mode;
     let letters = x.letters;
+    let counts = s.counts;
     if decide_levels::is_normal(mode) {
         return shown_in_normal();
     }
     VolumeReasons {
         normal: false,
         level: decide_levels::at_level(st, x.volume),
-        first: decide_levels::first_qualifying(s, letters),
+        first: decide_levels::first_qualifying(counts, letters),
         six: decide_levels::six(s, market),
         rule: decide_letters::has_rule(letters),
     }

@@ -54,7 +54,7 @@ use Rattle.facts_entry.proofs.Owed.{SmallTrade, SmallCorrection, SmallL
 trade-parts : (day : Day) (t : Trade) (st : Settings) (s : Security) (name : List ℕ) (i : ℕ) → day .settings ≡ st → securityAt day (t .security) ≡ s → nameAt day (t .security) ≡ name → i ≡ t .security
     → pick (printsTrade st s (t .market) (t .side))
     (some (traded i (showsTemporary s && hasTemporary name) (units (t .side .price)) (conditionsOf (t .side))
-    (pick (isNormal (st .mode) || (tradeShows st s (t .market) (t .side) && not (same (volumeText (s .network) (s .unit) (t .side .volume)) []))) (some (t .side .volume)) none))) none
+    (pick (isNormal (st .mode) || (tradeShows st s (t .market) (t .side) && not (same (volumeText (s .issue .network) (s .issue .unit) (t .side .volume)) []))) (some (t .side .volume)) none))) none
     ≡ factOf day (Traded t)
 unfolding factOf tradeFact shownVolume
 trade-parts day t st s name i e f g h = rw (← e, ← f, ← g, h)
@@ -154,7 +154,7 @@ module _ (st : Settings) (table names : List ℕ) where
     side-sound : t .matched ≡ true → SoundSide (t .side)
     side-sound m = record { price-is = h .price; previous-is = record { decimals = h .previous; small = k .previous-is m }; volume-is = k .side-is .volume-is; days-is = k .side-is .days-is }
 
-    unless-stopped : (l : Line) (p : Plan) → (1 ≤ s .unit → t .matched ≡ true → Fits l p) → Fits l (unlessStopped s t p)
+    unless-stopped : (l : Line) (p : Plan) → (1 ≤ s .issue .unit → t .matched ≡ true → Fits l p) → Fits l (unlessStopped s t p)
     unfolding unlessStopped
     unless-stopped l p f = asks _ _ _ _ (λ e. asks _ _ _ _ (λ g. asks _ _ _ _ (λ m. f (has-unit s e) (not-false (t .matched) m))))
 

@@ -16,7 +16,7 @@ unfolding isEntered vacant
 none-there = refl
 
 -- a place is entered by its unit alone
-pub entered-alike : (s t : Security) → s .unit ≡ t .unit → isEntered s ≡ isEntered t
+pub entered-alike : (s t : Security) → s .issue .unit ≡ t .issue .unit → isEntered s ≡ isEntered t
 unfolding isEntered
 entered-alike s t e = rw e
 

@@ -9,12 +9,13 @@ use Rattle.rules.specs.Price.{wholePart, units}
 use Rattle.rules.specs.Conditions.{hasRule}
 use Rattle.rules.specs.Qualifying.{forLast}
 use Rattle.rules.specs.Side.{sideText}
-use Rattle.rules.specs.Trade.{atLevel, newRange, tens, endsInZero, isNormal, highAfter, lowAfter, lastAfter}
+use Rattle.rules.specs.Trade.{atLevel, newRange, tens, endsInZero, isNormal, rangeAfter}
 use Rattle.rules.specs.declared.Mode.{Mode}
 use Rattle.rules.specs.declared.Mode.the-variants.{Normal, Dvd, Rpo, Mpv}
 use Rattle.rules.specs.declared.Letters.{Letters}
 use Rattle.rules.specs.declared.Side.{Side}
 use Rattle.rules.specs.declared.Settings.{Settings}
+use Rattle.rules.specs.declared.Range.{Range}
 use Rattle.rules.specs.declared.Security.{Security}
 
 -- the name repeats after WAS. if the correcting trade has any of S L O C K N M B
@@ -57,21 +58,21 @@ unfoldable pub printsInDvd : Settings → Security → Side → Side → Bool
 printsInDvd st s original correcting =
     (pricesDiffer original correcting && atLevel st (correcting .volume))
     || (hasRule (correcting .letters)
-    || eqb (s .unit) 1)
+    || eqb (s .issue .unit) 1)
 
 -- a price unlike the consolidated last, or none yet
-unfoldable pub unlikeLast : Security → ℕ → Bool
-unlikeLast s value = eqb (s .last) 0 || not (eqb value (s .last))
+unfoldable pub unlikeLast : Range → ℕ → Bool
+unlikeLast r value = eqb (r .last) 0 || not (eqb value (r .last))
 
 -- RPO and MPV: unit 1; either volume at the level; R on either side and prices differ; the correcting trade makes a new high or low that it qualifies for, or qualifies for last with a price unlike the consolidated last, or with none yet
 unfoldable pub printsInBoth : Settings → Security → Side → Side → Bool
 printsInBoth st s original correcting =
-    eqb (s .unit) 1
+    eqb (s .issue .unit) 1
     || (atLevel st (original .volume)
     || (atLevel st (correcting .volume)
     || (((original .letters .r || correcting .letters .r) && pricesDiffer original correcting)
-    || (newRange s correcting
-    || (forLast (correcting .letters) && unlikeLast s (units (correcting .price)))))))
+    || (newRange (s .range) correcting
+    || (forLast (correcting .letters) && unlikeLast (s .range) (units (correcting .price)))))))
 
 -- a correction prints; in RPO correcting J or G prints it too, in MPV that of either side
 unfoldable pub printsCorrection : Settings → Security → Side → Side → Bool
@@ -95,7 +96,7 @@ wholeInFull x = endsInZero (wholePart (x .price)) || leb 1000 (wholePart (x .pri
 -- full prices if unit 1, either whole part ends in 0, either is 1,000 or over, or (not in MPV) tens or higher differ
 unfoldable pub fullPrices : Settings → Security → Side → Side → Bool
 fullPrices st s original correcting =
-    eqb (s .unit) 1
+    eqb (s .issue .unit) 1
     || (wholeInFull original
     || (wholeInFull correcting
     || (not (isMpv (st .mode)) && not (eqb (tens (wholePart (original .price))) (tens (wholePart (correcting .price)))))))
@@ -113,23 +114,11 @@ correctionShows st original correcting = isNormal (st .mode) || showsVolumes st 
 
 -- cancels always print: full price if it ends in 0, unit 1, 1,000 or over; volume at the level, or J or G
 unfoldable pub cancelFull : Settings → Security → Side → Bool
-cancelFull st s x = isNormal (st .mode) || (eqb (s .unit) 1 || wholeInFull x)
+cancelFull st s x = isNormal (st .mode) || (eqb (s .issue .unit) 1 || wholeInFull x)
 
 unfoldable pub cancelShows : Settings → Side → Bool
 cancelShows st x = isNormal (st .mode) || (atLevel st (x .volume) || hasRule (x .letters))
 
 -- the correcting trade moves high, low and last; originals and cancels change nothing
 unfoldable pub afterCorrection : Security → Side → Security
-afterCorrection s x = record {
-  unit = s .unit;
-  network = s .network;
-  market = s .market;
-  first = s .first;
-  printed = s .printed;
-  high = highAfter s x;
-  low = lowAfter s x;
-  last = lastAfter s x;
-  trades = s .trades;
-  qualified = s .qualified;
-  primaries = s .primaries;
-}
+afterCorrection s x = record { issue = s .issue; printed = s .printed; range = rangeAfter (s .range) x; counts = s .counts }

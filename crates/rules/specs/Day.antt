@@ -27,6 +27,10 @@ use Rattle.rules.specs.declared.Line.the-variants.{Dated, Listed, Moded,
 use Rattle.rules.specs.declared.Refusal.{Refusal}
 use Rattle.rules.specs.declared.Refusal.the-variants.{Shape, Kind, NoDate, Form, Value, NotEntered, InUse, Name, SameName, Conditions, Unmatched, DateOrder, Room, NoPrint}
 use Rattle.rules.specs.declared.Settings.{Settings}
+use Rattle.rules.specs.declared.Issue.{Issue}
+use Rattle.rules.specs.declared.Printed.{Printed}
+use Rattle.rules.specs.declared.Range.{Range}
+use Rattle.rules.specs.declared.Counts.{Counts}
 use Rattle.rules.specs.declared.Security.{Security}
 
 -- ---- the state: settings, and 512 places for securities and for their names (columns 6 to 24 of the S line)
@@ -35,9 +39,25 @@ pub record Day : Type 0 where
   pub securities : List Security
   pub names : List (List ℕ)
 
+-- a security before its first trade: none printed, no high, low or last, nothing counted
+abbrev pub unprinted : Printed
+unprinted = record { price = 0 }
+
+abbrev pub noRange : Range
+noRange = record { high = 0; low = 0; last = 0 }
+
+abbrev pub noCounts : Counts
+noCounts = record { trades = 0; qualified = 0; primaries = 0 }
+
+abbrev pub untraded : Issue → Security
+untraded i = record { issue = i; printed = unprinted; range = noRange; counts = noCounts }
+
 -- no security
+abbrev pub noIssue : Issue
+noIssue = record { unit = 0; network = 0; market = 0; first = 0 }
+
 unfoldable pub vacant : Security
-vacant = record { unit = 0; network = 0; market = 0; first = 0; printed = 0; high = 0; low = 0; last = 0; trades = 0; qualified = 0; primaries = 0 }
+vacant = untraded noIssue
 
 -- no name: a place's 19 columns before an S line
 unfoldable pub noName : List ℕ
@@ -63,13 +83,13 @@ abbrev pub nameAt : Day → ℕ → List ℕ
 nameAt day i = getD (day .names) (i - 1) noName
 
 unfoldable pub isEntered : Security → Bool
-isEntered s = not (eqb (s .unit) 0)
+isEntered s = not (eqb (s .issue .unit) 0)
 
 -- ---- the print of a line
 
 -- the temporary suffix, on the first five trades of the security's day
 unfoldable pub showsTemporary : Security → Bool
-showsTemporary s = ltb (s .trades) 5
+showsTemporary s = ltb (s .counts .trades) 5
 
 unfoldable pub tradePrint : Day → Trade → List ℕ
 tradePrint day t =
@@ -77,14 +97,14 @@ tradePrint day t =
     let s = securityAt day (t .security) in
     let x = t .side in
     opt (printsTrade st s (t .market) x)
-    (sideText (nameText (showsTemporary s) (nameAt day (t .security))) (s .network) (s .unit) (tradeFull st s (t .market) x) (tradeShows st s (t .market) x) x)
+    (sideText (nameText (showsTemporary s) (nameAt day (t .security))) (s .issue .network) (s .issue .unit) (tradeFull st s (t .market) x) (tradeShows st s (t .market) x) x)
 
 unfoldable pub cancelPrint : List ℕ → Day → Trade → List ℕ
 cancelPrint opening day t =
     let st = day .settings in
     let s = securityAt day (t .security) in
     let x = t .side in
-    cancelText opening (nameText false (nameAt day (t .security))) (s .network) (s .unit) (cancelFull st s x) (cancelShows st x) x
+    cancelText opening (nameText false (nameAt day (t .security))) (s .issue .network) (s .issue .unit) (cancelFull st s x) (cancelShows st x) x
 
 unfoldable pub correctionPrint : Day → Correction → List ℕ
 correctionPrint day c =
@@ -93,7 +113,7 @@ correctionPrint day c =
     let x = c .original in
     let y = c .correcting in
     opt (printsCorrection st s x y)
-    (correctionText (nameText false (nameAt day (c .security))) (s .network) (s .unit) (correctionFull st s x y) (correctionShows st x y) x y)
+    (correctionText (nameText false (nameAt day (c .security))) (s .issue .network) (s .issue .unit) (correctionFull st s x y) (correctionShows st x y) x y)
 
 -- D and S lines print nothing
 unfoldable pub printOf : Day → Line → List ℕ
@@ -126,14 +146,14 @@ listingRefusal day name l later =
 unfoldable pub tradeRefusal : Security → Trade → Option Refusal → Option Refusal
 tradeRefusal s t later =
     refuse (not (isEntered s)) NotEntered
-    (refuse (not (t .lawful && onNetwork (s .network) (t .side .letters))) Conditions
+    (refuse (not (t .lawful && onNetwork (s .issue .network) (t .side .letters))) Conditions
     (refuse (not (t .matched)) Unmatched later))
 
 -- C: the same, 10 asked of both sides before 11
 unfoldable pub correctionRefusal : Security → Correction → Option Refusal → Option Refusal
 correctionRefusal s c later =
     refuse (not (isEntered s)) NotEntered
-    (refuse (not (c .lawful && (onNetwork (s .network) (c .original .letters) && onNetwork (s .network) (c .correcting .letters)))) Conditions
+    (refuse (not (c .lawful && (onNetwork (s .issue .network) (c .original .letters) && onNetwork (s .issue .network) (c .correcting .letters)))) Conditions
     (refuse (not (c .matched)) Unmatched later))
 
 -- D: 12 date not after the last accepted D
@@ -176,7 +196,7 @@ abbrev pub withSecurity : Day → ℕ → Security → Day
 withSecurity day i s = record { settings = day .settings; securities = set (day .securities) (i - 1) s; names = day .names }
 
 unfoldable pub entered : Listing → Security
-entered l = record { unit = l .unit; network = l .network; market = l .market; first = l .first; printed = 0; high = 0; low = 0; last = 0; trades = 0; qualified = 0; primaries = 0 }
+entered l = untraded (record { unit = l .unit; network = l .network; market = l .market; first = l .first })
 
 unfoldable pub afterLine : Day → List ℕ → Line → Day
 afterLine day name (Dated n) = cleared n

@@ -20,7 +20,7 @@ tradeFalls day t =
     not (isNormal (day .settings .mode))
     && (printsTrade (day .settings) s (t .market) (t .side)
     && (between 1 9 (wholePart (t .side .price))
-    && leb 10 (dollars (s .printed))))
+    && leb 10 (dollars (s .printed .price))))
 
 unfoldable pub falls : Day → Line → Bool
 falls day (Dated n) = false

@@ -52,7 +52,7 @@ pub data Fact : Type 0 where
 unfoldable pub shownVolume : Day → Trade → Option ℕ
 shownVolume day t =
     let s = securityAt day (t .security) in
-    pick (isNormal (day .settings .mode) || (tradeShows (day .settings) s (t .market) (t .side) && not (same (volumeText (s .network) (s .unit) (t .side .volume)) [])))
+    pick (isNormal (day .settings .mode) || (tradeShows (day .settings) s (t .market) (t .side) && not (same (volumeText (s .issue .network) (s .issue .unit) (t .side .volume)) [])))
     (some (t .side .volume)) none
 
 -- a blank temporary suffix is never shown

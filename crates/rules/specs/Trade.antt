@@ -12,30 +12,34 @@ use Rattle.rules.specs.declared.Price.{Price}
 use Rattle.rules.specs.declared.Letters.{Letters}
 use Rattle.rules.specs.declared.Side.{Side}
 use Rattle.rules.specs.declared.Settings.{Settings}
+use Rattle.rules.specs.declared.Issue.{Issue}
+use Rattle.rules.specs.declared.Printed.{Printed}
+use Rattle.rules.specs.declared.Range.{Range}
+use Rattle.rules.specs.declared.Counts.{Counts}
 use Rattle.rules.specs.declared.Security.{Security}
 
 -- the term "six": a first-day issue, its primary market, fewer than six such trades before
 unfoldable pub six : Security → ℕ → Bool
-six s market = eqb (s .first) 1 && (eqb market (s .market) && ltb (s .primaries) 6)
+six s market = eqb (s .issue .first) 1 && (eqb market (s .issue .market) && ltb (s .counts .primaries) 6)
 
 -- the term "at the level": at or over the delete level
 unfoldable pub atLevel : Settings → ℕ → Bool
 atLevel st volume = leb (st .level) volume
 
 -- the term "first trade qualifying", for last
-unfoldable pub firstQualifying : Security → Letters → Bool
-firstQualifying s x = forLast x && eqb (s .qualified) 0
+unfoldable pub firstQualifying : Counts → Letters → Bool
+firstQualifying c x = forLast x && eqb (c .qualified) 0
 
 -- a new high is above the high or the first; low alike
-unfoldable pub newHigh : Security → ℕ → Bool
-newHigh s value = eqb (s .high) 0 || ltb (s .high) value
+unfoldable pub newHigh : Range → ℕ → Bool
+newHigh r value = eqb (r .high) 0 || ltb (r .high) value
 
-unfoldable pub newLow : Security → ℕ → Bool
-newLow s value = eqb (s .low) 0 || ltb value (s .low)
+unfoldable pub newLow : Range → ℕ → Bool
+newLow r value = eqb (r .low) 0 || ltb value (r .low)
 
 -- new high or low by a trade that qualifies for them
-unfoldable pub newRange : Security → Side → Bool
-newRange s x = forRange (x .letters) && (newHigh s (units (x .price)) || newLow s (units (x .price)))
+unfoldable pub newRange : Range → Side → Bool
+newRange r x = forRange (x .letters) && (newHigh r (units (x .price)) || newLow r (units (x .price)))
 
 -- tens or higher of a whole part
 unfoldable pub tens : ℕ → ℕ
@@ -51,10 +55,10 @@ dollars value = value / 100000000
 -- full price, outside normal: none printed yet that day, tens or higher differ from the last printed price, whole part ends in 0, unit 1, 1,000 or over, six
 unfoldable pub fullAt : Security → ℕ → ℕ → Bool
 fullAt s market whole =
-    eqb (s .printed) 0
-    || (not (eqb (tens whole) (tens (dollars (s .printed))))
+    eqb (s .printed .price) 0
+    || (not (eqb (tens whole) (tens (dollars (s .printed .price))))
     || (endsInZero whole
-    || (eqb (s .unit) 1
+    || (eqb (s .issue .unit) 1
     || (leb 1000 whole
     || six s market))))
 
@@ -65,7 +69,7 @@ fullPrice s market x = fullAt s market (wholePart (x .price))
 unfoldable pub showsVolume : Settings → Security → ℕ → Side → Bool
 showsVolume st s market x =
     atLevel st (x .volume)
-    || (firstQualifying s (x .letters)
+    || (firstQualifying (s .counts) (x .letters)
     || (six s market
     || hasRule (x .letters)))
 
@@ -74,28 +78,28 @@ unfoldable pub printsAnyhow : Settings → Security → ℕ → Side → Bool
 printsAnyhow st s market x =
     six s market
     || (atLevel st (x .volume)
-    || (eqb (s .unit) 1
+    || (eqb (s .issue .unit) 1
     || hasRule (x .letters)))
 
 -- a price unlike the last printed, or none printed
-unfoldable pub unlikePrinted : Security → ℕ → Bool
-unlikePrinted s value = eqb (s .printed) 0 || not (eqb value (s .printed))
+unfoldable pub unlikePrinted : Printed → ℕ → Bool
+unlikePrinted p value = eqb (p .price) 0 || not (eqb value (p .price))
 
 -- level × 0.05 dollars
 unfoldable pub distance : Settings → ℕ
 distance st = st .minimum * 5000000
 
 -- more than level × 0.05 from the last printed
-unfoldable pub farFromPrinted : Settings → Security → ℕ → Bool
-farFromPrinted st s value = not (eqb (s .printed) 0) && (ltb (s .printed + distance st) value || ltb (value + distance st) (s .printed))
+unfoldable pub farFromPrinted : Settings → Printed → ℕ → Bool
+farFromPrinted st p value = not (eqb (p .price) 0) && (ltb (p .price + distance st) value || ltb (value + distance st) (p .price))
 
 -- a trade prints
 unfoldable pub printsTrade : Settings → Security → ℕ → Side → Bool
 printsTrade st s market x = elim (st .mode) [
   | Normal ↦ true
   | Dvd ↦ true
-  | Rpo ↦ newRange s x || ((forLast (x .letters) && unlikePrinted s (units (x .price))) || printsAnyhow st s market x)
-  | Mpv ↦ (forLast (x .letters) && farFromPrinted st s (units (x .price))) || (firstQualifying s (x .letters) || printsAnyhow st s market x)
+  | Rpo ↦ newRange (s .range) x || ((forLast (x .letters) && unlikePrinted (s .printed) (units (x .price))) || printsAnyhow st s market x)
+  | Mpv ↦ (forLast (x .letters) && farFromPrinted st (s .printed) (units (x .price))) || (firstQualifying (s .counts) (x .letters) || printsAnyhow st s market x)
 ]
 
 -- the mode is normal
@@ -112,33 +116,37 @@ tradeFull st s market x = isNormal (st .mode) || fullPrice s market x
 unfoldable pub tradeShows : Settings → Security → ℕ → Side → Bool
 tradeShows st s market x = isNormal (st .mode) || showsVolume st s market x
 
--- ---- high, low and last follow every accepted trade, and each correcting trade
+-- ---- what an accepted line leaves of its security, part by part
 
-unfoldable pub highAfter : Security → Side → ℕ
-highAfter s x = pick (forRange (x .letters) && newHigh s (units (x .price))) (units (x .price)) (s .high)
+-- high, low and last follow every accepted trade, and each correcting trade
+unfoldable pub rangeAfter : Range → Side → Range
+rangeAfter r x = record {
+  high = pick (forRange (x .letters) && newHigh r (units (x .price))) (units (x .price)) (r .high);
+  low = pick (forRange (x .letters) && newLow r (units (x .price))) (units (x .price)) (r .low);
+  last = pick (forLast (x .letters)) (units (x .price)) (r .last);
+}
 
-unfoldable pub lowAfter : Security → Side → ℕ
-lowAfter s x = pick (forRange (x .letters) && newLow s (units (x .price))) (units (x .price)) (s .low)
-
-unfoldable pub lastAfter : Security → Side → ℕ
-lastAfter s x = pick (forLast (x .letters)) (units (x .price)) (s .last)
+-- last printed price (of trades only)
+unfoldable pub printedAfter : Bool → Printed → Side → Printed
+printedAfter prints p x = record { price = pick prints (units (x .price)) (p .price) }
 
 -- a count that stops where it no longer matters
 unfoldable pub counted : Bool → ℕ → ℕ → ℕ
 counted test most count = pick (test && ltb count most) (count + 1) count
 
--- after an accepted trade: last printed price (of trades only), high, low, last, counts; T lines only, printed or not
+-- counts: T lines only, printed or not
+unfoldable pub countsAfter : Issue → Counts → ℕ → Side → Counts
+countsAfter i c market x = record {
+  trades = counted true 5 (c .trades);
+  qualified = counted (forLast (x .letters)) 1 (c .qualified);
+  primaries = counted (eqb market (i .market)) 6 (c .primaries);
+}
+
+-- after an accepted trade
 unfoldable pub afterTrade : Settings → Security → ℕ → Side → Security
 afterTrade st s market x = record {
-  unit = s .unit;
-  network = s .network;
-  market = s .market;
-  first = s .first;
-  printed = pick (printsTrade st s market x) (units (x .price)) (s .printed);
-  high = highAfter s x;
-  low = lowAfter s x;
-  last = lastAfter s x;
-  trades = counted true 5 (s .trades);
-  qualified = counted (forLast (x .letters)) 1 (s .qualified);
-  primaries = counted (eqb market (s .market)) 6 (s .primaries);
+  issue = s .issue;
+  printed = printedAfter (printsTrade st s market x) (s .printed) x;
+  range = rangeAfter (s .range) x;
+  counts = countsAfter (s .issue) (s .counts) market x;
 }

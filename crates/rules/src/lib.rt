@@ -143,18 +143,38 @@ pub struct Settings {
     pub minimum: u64,
 }
 
-// What a day holds of a security, its name apart. The unit is 0 where none is entered; prices are in units of
-// ten to the power -8 dollars, 0 for none; counts stop where they no longer matter: 5, 1 and 6.
-pub struct Security {
+// What the S line of a security says, its name apart. The unit is 0 where none is entered.
+pub struct Issue {
     pub unit: u64,
     pub network: u64,
     pub market: u64,
     pub first: u64,
-    pub printed: u64,
+}
+
+// The last printed trade of a security's day: its price in units of ten to the power -8 dollars, 0 for none.
+pub struct Printed {
+    pub price: u64,
+}
+
+// High, low and last of a security's day, in the same units, 0 for none.
+pub struct Range {
     pub high: u64,
     pub low: u64,
     pub last: u64,
+}
+
+// How many T lines of a security were accepted that day, of them qualifying for last, and on its primary market. Each count
+// stops where it no longer matters: 5, 1 and 6.
+pub struct Counts {
     pub trades: u64,
     pub qualified: u64,
     pub primaries: u64,
+}
+
+// What a day holds of a security, its name apart, in parts: a rule moves one and passes on the others.
+pub struct Security {
+    pub issue: Issue,
+    pub printed: Printed,
+    pub range: Range,
+    pub counts: Counts,
 }

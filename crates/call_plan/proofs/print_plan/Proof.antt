@@ -37,7 +37,18 @@ after-by-requires : tie.Need-after-by-requires
 after-by-requires c κs = search needs
 
 returns : tie.Need-returns
-returns c = search planned
+returns c =
+    planned _ _ _ _ _ _ _ _ _ _ _ _ _
+    (c .after-by .ensures)
+    (c .before .shows-by .ensures)
+    (c .before .before .full-by .ensures)
+    (c .before .before .before .before .before .prints-by .ensures)
+    (c .before .before .before .shows-temporary .ensures)
+    (c .before .before .before .before .before .before .before .before .before .before .in-units .ensures .0)
+    (c .before .before .before .before .before .before .before .before .before .whole-part .ensures)
+    (c .before .before .before .before .before .before .before .before .for-range .ensures)
+    (c .before .before .before .before .before .before .before .for-last .ensures)
+    (c .before .before .before .before .before .before .has-rule .ensures)
 
 pub print-plan-spec : {M : Type 1} → statement M
 print-plan-spec =
