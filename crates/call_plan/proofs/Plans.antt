@@ -7,12 +7,12 @@ use mathlib.Core.List.{List, [], _∷_}
 use lib.ListN.{take, drop}
 use borrow.Author.Tests.{not-true, not-false}
 use Rattle.rules.specs.Names.{sameName}
-use Rattle.rules.specs.Price.{wholePart, units}
+use Rattle.rules.specs.Price.{wholePart, units, formBy}
 use Rattle.rules.specs.Conditions.{hasRule}
 use Rattle.rules.specs.Qualifying.{forRange, forLast}
 use Rattle.decide_trade.specs.Value.{printsBy, fullBy, showsBy, afterBy}
-use Rattle.decide_trade.proofs.Value.{side-prints, side-full, side-shows, side-after}
-use Rattle.rules.specs.Correction.{printsCorrection, correctionFull, correctionShows, cancelFull, cancelShows, afterCorrection}
+use Rattle.decide_trade.proofs.Value.{side-prints, side-form, side-shows, side-after}
+use Rattle.rules.specs.Correction.{printsCorrection, correctionForm, correctionShows, cancelForm, cancelShows, afterCorrection}
 use Rattle.text.specs.Pick.{pick}
 use Rattle.rules.specs.Day.{isEntered, showsTemporary, entered, takenName}
 use Rattle.rules.specs.declared.Mode.{Mode}
@@ -31,6 +31,7 @@ use Rattle.call_plan.specs.declared.CorrectionPlan.{CorrectionPlan}
 use Rattle.call_plan.specs.declared.Plan.{Plan}
 use Rattle.call_plan.specs.declared.Plan.the-variants.{Stop, Open, Enter, Change, Level, Step, Print, Cancel, Correct}
 use Rattle.call_plan.specs.Plan.{datePlan, listingPlan, printPlan, tradePlan, cancelOf, cancelPlan, correctionOf, correctionPlan, linePlan, SoundListing, SoundTrade, SoundCorrection, SoundLine}
+use Rattle.rules.specs.declared.PriceForm.{PriceForm}
 
 -- ---- a name among those of entered securities
 
@@ -62,10 +63,10 @@ name-none table names name i x e h = let q : 512 - i ≡ 0 = omega arith in rw (
 
 -- ---- a trade
 
-pub planned : (st : Settings) (s : Security) (t : Trade) (value whole : ℕ) (ranges lasts rule a b c d : Bool) (e : Security)
+pub planned : (st : Settings) (s : Security) (t : Trade) (value whole : ℕ) (ranges lasts rule a b d : Bool) (c : PriceForm) (e : Security)
     → e ≡ afterBy s (t .market) value b ranges lasts
     → d ≡ showsBy st s (t .market) (t .side .volume) lasts rule
-    → c ≡ fullBy st s (t .market) whole
+    → c ≡ formBy (fullBy st s (t .market) whole)
     → b ≡ printsBy st s (t .market) (t .side .volume) value ranges lasts rule
     → a ≡ showsTemporary s
     → value ≡ units (t .side .price)
@@ -73,12 +74,12 @@ pub planned : (st : Settings) (s : Security) (t : Trade) (value whole : ℕ) (ra
     → ranges ≡ forRange (t .side .letters)
     → lasts ≡ forLast (t .side .letters)
     → rule ≡ hasRule (t .side .letters)
-    → (record { place = t .security - 1; side = t .side; network = s .issue .network; unit = s .issue .unit; temporary = a; prints = b; full = c; shows = d; after = e }) ≡ printPlan st s t
+    → (record { place = t .security - 1; side = t .side; network = s .issue .network; unit = s .issue .unit; temporary = a; prints = b; form = c; shows = d; after = e }) ≡ printPlan st s t
 unfolding printPlan
-planned st s t value whole ranges lasts rule a b c d e o u r q p v w ra la ru =
+planned st s t value whole ranges lasts rule a b d c e o u r q p v w ra la ru =
     let x = t .side in
     let k = side-prints st s (t .market) x value ranges lasts rule b v ra la ru q in
-    rw (p, side-after st s (t .market) x value b ranges lasts e v k ra la o, k, side-full st s (t .market) x whole c w r, side-shows st s (t .market) x lasts rule d la ru u)
+    rw (p, side-after st s (t .market) x value b ranges lasts e v k ra la o, k, side-form st s (t .market) x whole c w r, side-shows st s (t .market) x lasts rule d la ru u)
 
 pub trade-there : (st : Settings) (table : List ℕ) (s : Security) (t : Trade) (i : ℕ) (r : Plan) → s ≡ row table i → r ≡ tradePlan st s t → r ≡ tradePlan st (row table i) t
 trade-there st table s t i r e h = rw (← e) h
@@ -88,8 +89,8 @@ prints st s t p e = ap Print e
 
 -- ---- a cancel, an error, a correction
 
-pub planned-cancel : (error : Bool) (st : Settings) (s : Security) (t : Trade) (a b : Bool) → a ≡ cancelFull st s (t .side) → b ≡ cancelShows st (t .side)
-    → (record { error = error; place = t .security - 1; side = t .side; network = s .issue .network; unit = s .issue .unit; full = a; shows = b }) ≡ cancelOf error st s t
+pub planned-cancel : (error : Bool) (st : Settings) (s : Security) (t : Trade) (a : PriceForm) (b : Bool) → a ≡ cancelForm st s (t .side) → b ≡ cancelShows st (t .side)
+    → (record { error = error; place = t .security - 1; side = t .side; network = s .issue .network; unit = s .issue .unit; form = a; shows = b }) ≡ cancelOf error st s t
 unfolding cancelOf
 planned-cancel error st s t a b p q = rw (p, q)
 
@@ -99,8 +100,8 @@ cancel-there error st table s t i r e h = rw (← e) h
 pub cancels : (error : Bool) (st : Settings) (s : Security) (t : Trade) (p : CancelPlan) → p ≡ cancelOf error st s t → Cancel p ≡ Cancel (cancelOf error st s t)
 cancels error st s t p e = ap Cancel e
 
-pub planned-correction : (st : Settings) (s : Security) (c : Correction) (a b d : Bool) (e : Security) → a ≡ printsCorrection st s (c .original) (c .correcting) → b ≡ correctionFull st s (c .original) (c .correcting) → d ≡ correctionShows st (c .original) (c .correcting) → e ≡ afterCorrection s (c .correcting)
-    → (record { place = c .security - 1; original = c .original; correcting = c .correcting; network = s .issue .network; unit = s .issue .unit; prints = a; full = b; shows = d; after = e }) ≡ correctionOf st s c
+pub planned-correction : (st : Settings) (s : Security) (c : Correction) (a : Bool) (b : PriceForm) (d : Bool) (e : Security) → a ≡ printsCorrection st s (c .original) (c .correcting) → b ≡ correctionForm st s (c .original) (c .correcting) → d ≡ correctionShows st (c .original) (c .correcting) → e ≡ afterCorrection s (c .correcting)
+    → (record { place = c .security - 1; original = c .original; correcting = c .correcting; network = s .issue .network; unit = s .issue .unit; prints = a; form = b; shows = d; after = e }) ≡ correctionOf st s c
 unfolding correctionOf
 planned-correction st s c a b d e p q r u = rw (p, q, r, u)
 

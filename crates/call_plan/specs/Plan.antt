@@ -7,8 +7,8 @@ use lib.ListN.{length}
 use Rattle.text.specs.Pick.{pick}
 use Rattle.rules.specs.Columns.{column}
 use Rattle.rules.specs.Conditions.{onNetwork}
-use Rattle.rules.specs.Trade.{printsTrade, tradeFull, tradeShows, afterTrade}
-use Rattle.rules.specs.Correction.{printsCorrection, correctionFull, correctionShows, cancelFull, cancelShows, afterCorrection}
+use Rattle.rules.specs.Trade.{printsTrade, tradeForm, tradeShows, afterTrade}
+use Rattle.rules.specs.Correction.{printsCorrection, correctionForm, correctionShows, cancelForm, cancelShows, afterCorrection}
 use Rattle.rules.specs.Line.{isShaped, isKind, isFormed, isRanged, lineOf, nameColumns}
 use Rattle.rules.specs.Day.{isEntered, showsTemporary, entered, takenName}
 use Rattle.rules.specs.declared.Mode.{Mode}
@@ -51,7 +51,7 @@ printPlan st s t = record {
   unit = s .issue .unit;
   temporary = showsTemporary s;
   prints = printsTrade st s (t .market) (t .side);
-  full = tradeFull st s (t .market) (t .side);
+  form = tradeForm st s (t .market) (t .side);
   shows = tradeShows st s (t .market) (t .side);
   after = afterTrade st s (t .market) (t .side);
 }
@@ -74,7 +74,7 @@ cancelOf error st s t = record {
   side = t .side;
   network = s .issue .network;
   unit = s .issue .unit;
-  full = cancelFull st s (t .side);
+  form = cancelForm st s (t .side);
   shows = cancelShows st (t .side);
 }
 
@@ -90,7 +90,7 @@ correctionOf st s c = record {
   network = s .issue .network;
   unit = s .issue .unit;
   prints = printsCorrection st s (c .original) (c .correcting);
-  full = correctionFull st s (c .original) (c .correcting);
+  form = correctionForm st s (c .original) (c .correcting);
   shows = correctionShows st (c .original) (c .correcting);
   after = afterCorrection s (c .correcting);
 }

@@ -10,6 +10,7 @@ use rules::Listing;
 use rules::Mode;
 use rules::NAME_WIDTH;
 use rules::PLACES;
+use rules::PriceForm;
 use rules::Printed;
 use rules::Range;
 use rules::Refusal;
@@ -39,7 +40,7 @@ pub struct TradePlan {
     pub unit: u64,
     pub temporary: bool,
     pub prints: bool,
-    pub full: bool,
+    pub form: PriceForm,
     pub shows: bool,
     pub after: Security,
 }
@@ -51,7 +52,7 @@ pub struct CancelPlan {
     pub side: Side,
     pub network: u64,
     pub unit: u64,
-    pub full: bool,
+    pub form: PriceForm,
     pub shows: bool,
 }
 
@@ -63,7 +64,7 @@ pub struct CorrectionPlan {
     pub network: u64,
     pub unit: u64,
     pub prints: bool,
-    pub full: bool,
+    pub form: PriceForm,
     pub shows: bool,
     pub after: Security,
 }
@@ -221,7 +222,7 @@ pub fn print_plan(st: Settings, s: Security, t: Trade) -> TradePlan
         unit: s.issue.unit,
         temporary: decide_letters::shows_temporary(s),
         prints: prints,
-        full: decide_trade::full_by(st, s, t.market, whole),
+        form: decide_trade::form_by(st, s, t.market, whole),
         shows: decide_trade::shows_by(st, s, t.market, x.volume, lasts, rule),
         after: decide_trade::after_by(s, t.market, value, prints, ranges, lasts),
     }
@@ -274,7 +275,7 @@ fn cancel_of(error: bool, st: Settings, s: Security, t: Trade) -> CancelPlan
         side: x,
         network: s.issue.network,
         unit: s.issue.unit,
-        full: decide_correction::cancel_full(st, s, x),
+        form: decide_correction::cancel_form(st, s, x),
         shows: decide_correction::cancel_shows(st, x),
     }
 }
@@ -317,7 +318,7 @@ fn correction_of(st: Settings, s: Security, c: Correction) -> CorrectionPlan
         network: s.issue.network,
         unit: s.issue.unit,
         prints: decide_correction::prints_correction(st, s, x, y),
-        full: decide_correction::correction_full(st, s, x, y),
+        form: decide_correction::correction_form(st, s, x, y),
         shows: decide_correction::correction_shows(st, x, y),
         after: decide_correction::after_correction(s, y),
     }

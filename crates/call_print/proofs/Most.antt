@@ -34,6 +34,7 @@ use Rattle.call_plan.specs.declared.Plan.{Plan}
 use Rattle.call_plan.specs.declared.Plan.the-variants.{Stop, Open, Enter, Change, Level, Step, Print, Cancel, Correct}
 use Rattle.call_print.specs.Print.{printText, cancelled, corrected, textOf, fittedOf, SoundPrint, SoundCancel, SoundCorrect, SoundPlan}
 use Rattle.call_print.proofs.Room.{told-fits}
+use Rattle.rules.specs.declared.PriceForm.{PriceForm}
 
 -- ---- trades, cancels, corrections
 
@@ -41,25 +42,25 @@ pair-most : (x : Side) → length (endPair x) ≤ 2
 unfolding endPair
 pair-most x = opt-most (not (x .letters .g)) (bytes ">>") 2 (omega arith)
 
-module _ (x : Side) (h : Short x) (name : List ℕ) (l : length name ≤ 22) (network unit : ℕ) (full shows : Bool) where
-  side-most : length (sideText name network unit full shows x) ≤ 183
-  side-most = omega (arith, side-short x h name network unit full shows)
+module _ (x : Side) (h : Short x) (name : List ℕ) (l : length name ≤ 22) (network unit : ℕ) (form : PriceForm) (shows : Bool) where
+  side-most : length (sideText name network unit form shows x) ≤ 183
+  side-most = omega (arith, side-short x h name network unit form shows)
 
-  pub trade-most : (b : Bool) → length (opt b (sideText name network unit full shows x)) ≤ longestPrint
+  pub trade-most : (b : Bool) → length (opt b (sideText name network unit form shows x)) ≤ longestPrint
   trade-most b = opt-most b _ longestPrint (omega (arith, side-most))
 
-  pub cancel-most : (opening : List ℕ) → length opening ≡ 6 → length (cancelText opening name network unit full shows x) ≤ longestPrint
+  pub cancel-most : (opening : List ℕ) → length opening ≡ 6 → length (cancelText opening name network unit form shows x) ≤ longestPrint
   unfolding cancelText
   cancel-most opening six = simp length-append (omega (arith, six, side-most, pair-most x))
 
-module _ (x y : Side) (h : Short x) (k : Short y) (name : List ℕ) (l : length name ≤ 22) (network unit : ℕ) (full shows : Bool) where
-  both-most : length (correctionText name network unit full shows x y) ≤ longestPrint
+module _ (x y : Side) (h : Short x) (k : Short y) (name : List ℕ) (l : length name ≤ 22) (network unit : ℕ) (form : PriceForm) (shows : Bool) where
+  both-most : length (correctionText name network unit form shows x y) ≤ longestPrint
   unfolding correctionText
   both-most =
       simp length-append
-      (omega (arith, side-most x h name l network unit full shows, side-most y k (opt (repeatsName (y .letters)) name) (opt-most (repeatsName (y .letters)) name 22 l) network unit full shows, pair-most y))
+      (omega (arith, side-most x h name l network unit form shows, side-most y k (opt (repeatsName (y .letters)) name) (opt-most (repeatsName (y .letters)) name 22 l) network unit form shows, pair-most y))
 
-  pub correction-most : (b : Bool) → length (opt b (correctionText name network unit full shows x y)) ≤ longestPrint
+  pub correction-most : (b : Bool) → length (opt b (correctionText name network unit form shows x y)) ≤ longestPrint
   correction-most b = opt-most b _ longestPrint both-most
 
 -- ---- announcements of numbers of at most twenty digits

@@ -30,21 +30,21 @@ module _ (name : List ℕ) (t : TradePlan) where
   unfolding printText opt
   no-print h = rw h
 
-  pub some-print : t .prints ≡ true → printText name t ≡ sideText name (t .network) (t .unit) (t .full) (t .shows) (t .side)
+  pub some-print : t .prints ≡ true → printText name t ≡ sideText name (t .network) (t .unit) (t .form) (t .shows) (t .side)
   unfolding printText opt
   some-print h = rw h
 
 -- with the columns of its name as a callee answered them
 module _ (names : List ℕ) (t : TradePlan) (name : List ℕ) (e : name ≡ nameOf names (t .place)) (h : t .prints ≡ true) where
-  pub print-length : (r : ℕ) → r ≡ length (sideText (nameText (t .temporary) name) (t .network) (t .unit) (t .full) (t .shows) (t .side)) → r ≡ length (printText (nameText (t .temporary) (nameOf names (t .place))) t)
+  pub print-length : (r : ℕ) → r ≡ length (sideText (nameText (t .temporary) name) (t .network) (t .unit) (t .form) (t .shows) (t .side)) → r ≡ length (printText (nameText (t .temporary) (nameOf names (t .place))) t)
   unfolding printText opt
   print-length r l = rw (h, ← e) l
 
-  pub print-room : (m : ℕ) → length (printText (nameText (t .temporary) (nameOf names (t .place))) t) ≤ m → length (sideText (nameText (t .temporary) name) (t .network) (t .unit) (t .full) (t .shows) (t .side)) ≤ m
+  pub print-room : (m : ℕ) → length (printText (nameText (t .temporary) (nameOf names (t .place))) t) ≤ m → length (sideText (nameText (t .temporary) name) (t .network) (t .unit) (t .form) (t .shows) (t .side)) ≤ m
   unfolding printText opt
   print-room m l = rw e (rw h at l)
 
-  pub print-written : (b a : List ℕ) (r : ℕ) → Written (sideText (nameText (t .temporary) name) (t .network) (t .unit) (t .full) (t .shows) (t .side)) b a r → Written (printText (nameText (t .temporary) (nameOf names (t .place))) t) b a r
+  pub print-written : (b a : List ℕ) (r : ℕ) → Written (sideText (nameText (t .temporary) name) (t .network) (t .unit) (t .form) (t .shows) (t .side)) b a r → Written (printText (nameText (t .temporary) (nameOf names (t .place))) t) b a r
   unfolding printText opt
   print-written b a r w = rw (h, ← e) w
 
@@ -57,35 +57,35 @@ module _ (name : List ℕ) (c : CorrectionPlan) where
   unfolding corrected opt
   no-correction h = rw h
 
-  pub some-correction : c .prints ≡ true → corrected name c ≡ correctionText name (c .network) (c .unit) (c .full) (c .shows) (c .original) (c .correcting)
+  pub some-correction : c .prints ≡ true → corrected name c ≡ correctionText name (c .network) (c .unit) (c .form) (c .shows) (c .original) (c .correcting)
   unfolding corrected opt
   some-correction h = rw h
 
 module _ (names : List ℕ) (c : CorrectionPlan) (name : List ℕ) (e : name ≡ nameOf names (c .place)) (h : c .prints ≡ true) where
-  pub correction-length : (r : ℕ) → r ≡ length (correctionText (nameText false name) (c .network) (c .unit) (c .full) (c .shows) (c .original) (c .correcting)) → r ≡ length (corrected (nameText false (nameOf names (c .place))) c)
+  pub correction-length : (r : ℕ) → r ≡ length (correctionText (nameText false name) (c .network) (c .unit) (c .form) (c .shows) (c .original) (c .correcting)) → r ≡ length (corrected (nameText false (nameOf names (c .place))) c)
   unfolding corrected opt
   correction-length r l = rw (h, ← e) l
 
-  pub correction-room : (m : ℕ) → length (corrected (nameText false (nameOf names (c .place))) c) ≤ m → length (correctionText (nameText false name) (c .network) (c .unit) (c .full) (c .shows) (c .original) (c .correcting)) ≤ m
+  pub correction-room : (m : ℕ) → length (corrected (nameText false (nameOf names (c .place))) c) ≤ m → length (correctionText (nameText false name) (c .network) (c .unit) (c .form) (c .shows) (c .original) (c .correcting)) ≤ m
   unfolding corrected opt
   correction-room m l = rw e (rw h at l)
 
-  pub correction-written : (b a : List ℕ) (r : ℕ) → Written (correctionText (nameText false name) (c .network) (c .unit) (c .full) (c .shows) (c .original) (c .correcting)) b a r → Written (corrected (nameText false (nameOf names (c .place))) c) b a r
+  pub correction-written : (b a : List ℕ) (r : ℕ) → Written (correctionText (nameText false name) (c .network) (c .unit) (c .form) (c .shows) (c .original) (c .correcting)) b a r → Written (corrected (nameText false (nameOf names (c .place))) c) b a r
   unfolding corrected opt
   correction-written b a r w = rw (h, ← e) w
 
 pub ruleset corrections = (no-correction, correction-length, correction-room, correction-written)
 
 module _ (names : List ℕ) (t : CancelPlan) (name : List ℕ) (e : name ≡ nameOf names (t .place)) where
-  pub cancel-length : (r : ℕ) → r ≡ length (cancelText (pick (t .error) errorOpening cancelOpening) (nameText false name) (t .network) (t .unit) (t .full) (t .shows) (t .side)) → r ≡ length (cancelled (nameText false (nameOf names (t .place))) t)
+  pub cancel-length : (r : ℕ) → r ≡ length (cancelText (pick (t .error) errorOpening cancelOpening) (nameText false name) (t .network) (t .unit) (t .form) (t .shows) (t .side)) → r ≡ length (cancelled (nameText false (nameOf names (t .place))) t)
   unfolding cancelled
   cancel-length r l = rw (← e) l
 
-  pub cancel-room : (m : ℕ) → length (cancelled (nameText false (nameOf names (t .place))) t) ≤ m → length (cancelText (pick (t .error) errorOpening cancelOpening) (nameText false name) (t .network) (t .unit) (t .full) (t .shows) (t .side)) ≤ m
+  pub cancel-room : (m : ℕ) → length (cancelled (nameText false (nameOf names (t .place))) t) ≤ m → length (cancelText (pick (t .error) errorOpening cancelOpening) (nameText false name) (t .network) (t .unit) (t .form) (t .shows) (t .side)) ≤ m
   unfolding cancelled
   cancel-room m l = rw e l
 
-  pub cancel-written : (b a : List ℕ) (r : ℕ) → Written (cancelText (pick (t .error) errorOpening cancelOpening) (nameText false name) (t .network) (t .unit) (t .full) (t .shows) (t .side)) b a r → Written (cancelled (nameText false (nameOf names (t .place))) t) b a r
+  pub cancel-written : (b a : List ℕ) (r : ℕ) → Written (cancelText (pick (t .error) errorOpening cancelOpening) (nameText false name) (t .network) (t .unit) (t .form) (t .shows) (t .side)) b a r → Written (cancelled (nameText false (nameOf names (t .place))) t) b a r
   unfolding cancelled
   cancel-written b a r w = rw (← e) w
 

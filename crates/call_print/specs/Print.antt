@@ -38,15 +38,15 @@ printedName names (Correct c) = nameText false (nameOf names (c .place))
 
 -- a trade, where it prints
 unfoldable pub printText : List ℕ → TradePlan → List ℕ
-printText name t = opt (t .prints) (sideText name (t .network) (t .unit) (t .full) (t .shows) (t .side))
+printText name t = opt (t .prints) (sideText name (t .network) (t .unit) (t .form) (t .shows) (t .side))
 
 -- a cancel or an error: always
 unfoldable pub cancelled : List ℕ → CancelPlan → List ℕ
-cancelled name t = cancelText (pick (t .error) errorOpening cancelOpening) name (t .network) (t .unit) (t .full) (t .shows) (t .side)
+cancelled name t = cancelText (pick (t .error) errorOpening cancelOpening) name (t .network) (t .unit) (t .form) (t .shows) (t .side)
 
 -- a correction, where it prints
 unfoldable pub corrected : List ℕ → CorrectionPlan → List ℕ
-corrected name c = opt (c .prints) (correctionText name (c .network) (c .unit) (c .full) (c .shows) (c .original) (c .correcting))
+corrected name c = opt (c .prints) (correctionText name (c .network) (c .unit) (c .form) (c .shows) (c .original) (c .correcting))
 
 -- a print under a name
 unfoldable pub textOf : Settings → List ℕ → Plan → List ℕ

@@ -27,9 +27,10 @@ fn print_length(names: &Names, line: &[u8], t: TradePlan) -> usize
     ensures { λ r. ⌜ r ≡ length (printText (nameText (t .temporary) (nameOf (now (names .entry)) (t .place))) t) ⌝ }
 {
     let side = t.side;
+    let form = t.form;
     if t.prints {
         let name = call_table::name_at(names, t.place);
-        return print_side::side_length(name, t.temporary, t.network, t.unit, t.full, t.shows, side);
+        return print_side::side_length(name, t.temporary, t.network, t.unit, form, t.shows, side);
     }
     0
 }
@@ -39,8 +40,9 @@ fn cancel_length(names: &Names, line: &[u8], t: CancelPlan) -> usize
     ensures { λ r. ⌜ r ≡ length (cancelled (nameText false (nameOf (now (names .entry)) (t .place))) t) ⌝ }
 {
     let side = t.side;
+    let form = t.form;
     let name = call_table::name_at(names, t.place);
-    print_amendment::cancel_length(t.error, name, t.network, t.unit, t.full, t.shows, side)
+    print_amendment::cancel_length(t.error, name, t.network, t.unit, form, t.shows, side)
 }
 
 fn correction_length(names: &Names, line: &[u8], c: CorrectionPlan) -> usize
@@ -49,9 +51,10 @@ fn correction_length(names: &Names, line: &[u8], c: CorrectionPlan) -> usize
 {
     let x = c.original;
     let y = c.correcting;
+    let form = c.form;
     if c.prints {
         let name = call_table::name_at(names, c.place);
-        return print_amendment::correction_length(name, c.network, c.unit, c.full, c.shows, x, y);
+        return print_amendment::correction_length(name, c.network, c.unit, form, c.shows, x, y);
     }
     0
 }
@@ -93,6 +96,7 @@ fn write_print(rest: &mut [u8], names: &Names, line: &[u8], t: TradePlan) -> usi
     ensures { λ r. ⌜ Written (printText (nameText (t .temporary) (nameOf (now (names .entry)) (t .place))) t) (now (rest .entry)) (now (rest .exit)) r ⌝ }
 {
     let side = t.side;
+    let form = t.form;
     if t.prints {
         let name = call_table::name_at(names, t.place);
         return print_side::write_side(
@@ -101,7 +105,7 @@ fn write_print(rest: &mut [u8], names: &Names, line: &[u8], t: TradePlan) -> usi
             t.temporary,
             t.network,
             t.unit,
-            t.full,
+            form,
             t.shows,
             side,
             &line[FIRST_SIDE..SECOND_SIDE],
@@ -115,6 +119,7 @@ fn write_cancel(rest: &mut [u8], names: &Names, line: &[u8], t: CancelPlan) -> u
     ensures { λ r. ⌜ Written (cancelled (nameText false (nameOf (now (names .entry)) (t .place))) t) (now (rest .entry)) (now (rest .exit)) r ⌝ }
 {
     let side = t.side;
+    let form = t.form;
     let name = call_table::name_at(names, t.place);
     print_amendment::write_cancel(
         rest,
@@ -122,7 +127,7 @@ fn write_cancel(rest: &mut [u8], names: &Names, line: &[u8], t: CancelPlan) -> u
         name,
         t.network,
         t.unit,
-        t.full,
+        form,
         t.shows,
         side,
         &line[FIRST_SIDE..SECOND_SIDE],
@@ -135,6 +140,7 @@ fn write_correction(rest: &mut [u8], names: &Names, line: &[u8], c: CorrectionPl
 {
     let x = c.original;
     let y = c.correcting;
+    let form = c.form;
     if c.prints {
         let name = call_table::name_at(names, c.place);
         return print_amendment::write_correction(
@@ -142,7 +148,7 @@ fn write_correction(rest: &mut [u8], names: &Names, line: &[u8], c: CorrectionPl
             name,
             c.network,
             c.unit,
-            c.full,
+            form,
             c.shows,
             x,
             y,

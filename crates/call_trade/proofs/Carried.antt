@@ -14,13 +14,13 @@ use Rattle.rules.specs.declared.Side.{Side}
 use Rattle.rules.specs.declared.Settings.{Settings}
 use Rattle.rules.specs.declared.Security.{Security}
 use Rattle.rules.specs.Names.{nameText}
-use Rattle.rules.specs.Price.{wholePart, units}
+use Rattle.rules.specs.Price.{wholePart, units, formBy}
 use Rattle.rules.specs.Conditions.{hasRule, onNetwork}
 use Rattle.rules.specs.Qualifying.{forNeither, forRangeOnly, forRange, forLast}
 use Rattle.rules.specs.declared.Letters.{Letters}
 use Rattle.rules.specs.Side.{sideText}
 use Rattle.rules.specs.Day.{showsTemporary}
-use Rattle.rules.specs.Trade.{printsTrade, tradeFull, tradeShows, afterTrade}
+use Rattle.rules.specs.Trade.{printsTrade, tradeForm, tradeShows, afterTrade}
 use Rattle.rules.specs.Sizes.{longestPrint}
 use Rattle.call_table.specs.Rows.{withRow, nameOf}
 use Rattle.name_text.proofs.Text.{name-most}
@@ -31,9 +31,10 @@ use Rattle.print_side.proofs.Short.{Short, side-short}
 use Rattle.line_trade.specs.declared.TradeLine.{TradeLine}
 use Rattle.line_trade.specs.TradeLine.{noLetters, sideIn}
 use Rattle.decide_trade.specs.Value.{printsBy, fullBy, showsBy, afterBy}
-use Rattle.decide_trade.proofs.Value.{side-prints, side-full, side-shows, side-after}
+use Rattle.decide_trade.proofs.Value.{side-prints, side-form, side-shows, side-after}
 use Rattle.call_trade.specs.declared.TradeAnswer.{TradeAnswer}
 use Rattle.call_trade.specs.Traded.{tradeText, untakenOf, Decided, Fitted, Carried}
+use Rattle.rules.specs.declared.PriceForm.{PriceForm}
 
 -- ---- room
 
@@ -42,8 +43,8 @@ unfolding untakenOf
 untaken-is = refl
 
 -- no side is longer than `longestPrint` bytes
-pub room-any : (room : ℕ) (name : List ℕ) (temporary : Bool) (network unit : ℕ) (full shows : Bool) (x : Side) → Short x → longestPrint ≤ room → true ≡ leb (length (sideText (nameText temporary name) network unit full shows x)) room
-room-any room name temporary network unit full shows x h l = sym (le-leb _ room (omega (arith, side-short x h (nameText temporary name) network unit full shows, name-most temporary name)))
+pub room-any : (room : ℕ) (name : List ℕ) (temporary : Bool) (network unit : ℕ) (form : PriceForm) (shows : Bool) (x : Side) → Short x → longestPrint ≤ room → true ≡ leb (length (sideText (nameText temporary name) network unit form shows x)) room
+room-any room name temporary network unit form shows x h l = sym (le-leb _ room (omega (arith, side-short x h (nameText temporary name) network unit form shows, name-most temporary name)))
 
 pub fits : (n room : ℕ) (q : Bool) → q ≡ leb n room → not q ≡ false → n ≤ room
 fits n room q e h = leb-true n room (sym e ∙ not-false q h)
@@ -83,18 +84,18 @@ module _ (st : Settings) (s : Security) (names : List ℕ) (place market : ℕ) 
 
   -- ---- printed
 
-  module _ (value : ℕ) (lasts rule : Bool) (after : Security) (part : List ℕ) (c : SideColumns part x) (d : Decided st s market x value lasts rule after) (full shows temporary : Bool) (name : List ℕ)
-      (f : full ≡ fullBy st s market (value / 100000000)) (w : shows ≡ showsBy st s market (x .volume) lasts rule) (t : temporary ≡ showsTemporary s) (n : name ≡ nameOf names place) where
+  module _ (value : ℕ) (lasts rule : Bool) (after : Security) (part : List ℕ) (c : SideColumns part x) (d : Decided st s market x value lasts rule after) (form : PriceForm) (shows temporary : Bool) (name : List ℕ)
+      (f : form ≡ formBy (fullBy st s market (value / 100000000))) (w : shows ≡ showsBy st s market (x .volume) lasts rule) (t : temporary ≡ showsTemporary s) (n : name ≡ nameOf names place) where
     whole-is : value / 100000000 ≡ wholePart (x .price)
     unfolding units wholePart
     whole-is = ap (λ (z : ℕ). z / 100000000) (d .value-is) ∙ whole-units (x .price .n) (x .price .d) (c .sound .decimals)
 
     abbrev side : List ℕ
-    side = sideText (nameText temporary name) (s .issue .network) (s .issue .unit) full shows x
+    side = sideText (nameText temporary name) (s .issue .network) (s .issue .unit) form shows x
 
     text-is : text ≡ side
     unfolding tradeText opt
-    text-is = rw (d .prints-is, ← n, ← t, ← side-full st s market x (value / 100000000) full whole-is f, ← side-shows st s market x lasts rule shows (d .lasts-is) (d .rule-is) w)
+    text-is = rw (d .prints-is, ← n, ← t, ← side-form st s market x (value / 100000000) form whole-is f, ← side-shows st s market x lasts rule shows (d .lasts-is) (d .rule-is) w)
 
     module _ (q : Bool) (r : q ≡ leb (length side) (length tape)) where
       pub no-room : (a : TradeAnswer) → not q ≡ true → a ≡ untakenOf → Fitted st s (nameOf names place) place market x table tape table tape a

@@ -16,13 +16,13 @@ use Rattle.rules.specs.Conditions.{hasRule, onNetwork}
 use Rattle.rules.specs.Qualifying.{forLast}
 use Rattle.rules.specs.Side.{sideText}
 use Rattle.rules.specs.Day.{showsTemporary}
-use Rattle.rules.specs.Trade.{printsTrade, tradeFull, tradeShows, afterTrade}
+use Rattle.rules.specs.Trade.{printsTrade, tradeForm, tradeShows, afterTrade}
 use Rattle.call_table.specs.Rows.{withRow}
 use Rattle.call_trade.specs.declared.TradeAnswer.{TradeAnswer}
 
 -- the print of a trade of security s, under the columns of its name
 unfoldable pub tradeText : Settings → Security → List ℕ → ℕ → Side → List ℕ
-tradeText st s name market x = opt (printsTrade st s market x) (sideText (nameText (showsTemporary s) name) (s .issue .network) (s .issue .unit) (tradeFull st s market x) (tradeShows st s market x) x)
+tradeText st s name market x = opt (printsTrade st s market x) (sideText (nameText (showsTemporary s) name) (s .issue .network) (s .issue .unit) (tradeForm st s market x) (tradeShows st s market x) x)
 
 unfoldable pub untakenOf : TradeAnswer
 untakenOf = record { taken = false; length = 0 }

@@ -6,6 +6,7 @@ use line_trade::TradeLine;
 use rules::LONGEST_PRINT;
 use rules::Letters;
 use rules::Price;
+use rules::PriceForm;
 use rules::Security;
 use rules::Settings;
 use rules::Side;
@@ -91,17 +92,17 @@ fn has_room(
     temporary: bool,
     network: u64,
     unit: u64,
-    full: bool,
+    form: PriceForm,
     shows: bool,
     x: Side,
 ) -> bool
     requires { ⌜ (length (now name) ≡ nameWidth) × (1 ≤ unit) × (x .price .d ≤ 8) × (x .previous .d ≤ 8) ⌝ }
-    ensures { λ r. ⌜ r ≡ leb (length (sideText (nameText temporary (now (name .entry))) network unit full shows x)) room ⌝ }
+    ensures { λ r. ⌜ r ≡ leb (length (sideText (nameText temporary (now (name .entry))) network unit form shows x)) room ⌝ }
 {
     if LONGEST_PRINT <= room {
         return true;
     }
-    print_side::side_length(name, temporary, network, unit, full, shows, x) <= room
+    print_side::side_length(name, temporary, network, unit, form, shows, x) <= room
 }
 
 // A trade that prints: `value` is its price in units, `after` the security after it.
@@ -122,7 +123,7 @@ fn print_out(
     requires { ⌜ (place < securityPlaces) × (1 ≤ s .issue .unit) × SideColumns (now part) (sideIn t) × Decided st s (t .market) (sideIn t) value lasts rule after ⌝ }
     ensures { λ r. ⌜ Fitted st s (nameOf (now (names .entry)) place) place (t .market) (sideIn t) (now (table .entry)) (now (tape .entry)) (now (table .exit)) (now (tape .exit)) r ⌝ }
 {
-    let full = decide_trade::full_by(st, s, t.market, value / 100000000);
+    let form = decide_trade::form_by(st, s, t.market, value / 100000000);
     let shows = decide_trade::shows_by(st, s, t.market, t.volume, lasts, rule);
     let temporary = decide_letters::shows_temporary(s);
     let name = call_table::name_at(names, place);
@@ -140,7 +141,7 @@ fn print_out(
         temporary,
         s.issue.network,
         s.issue.unit,
-        full,
+        form,
         shows,
         x,
     ) {
@@ -153,7 +154,7 @@ fn print_out(
         temporary,
         s.issue.network,
         s.issue.unit,
-        full,
+        form,
         shows,
         x,
         part,

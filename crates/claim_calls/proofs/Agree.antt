@@ -12,8 +12,8 @@ use Rattle.text.specs.Pick.{pick, opt}
 use Rattle.rules.specs.Names.{nameText}
 use Rattle.rules.specs.Conditions.{onNetwork}
 use Rattle.rules.specs.Side.{sideText}
-use Rattle.rules.specs.Trade.{printsTrade, tradeFull, tradeShows, afterTrade}
-use Rattle.rules.specs.Correction.{correctionText, cancelText, cancelOpening, errorOpening, printsCorrection, correctionFull, correctionShows, cancelFull, cancelShows, afterCorrection}
+use Rattle.rules.specs.Trade.{printsTrade, tradeForm, tradeShows, afterTrade}
+use Rattle.rules.specs.Correction.{correctionText, cancelText, cancelOpening, errorOpening, printsCorrection, correctionForm, correctionShows, cancelForm, cancelShows, afterCorrection}
 use Rattle.rules.specs.Columns.{column}
 use Rattle.rules.specs.Line.{isShaped, isFormed, isRanged, lineOf, ofKind, nameColumns}
 use Rattle.rules.specs.Refusal.{refuse}
@@ -48,18 +48,18 @@ settled st table names = refl
 
 -- a trade's print by what the day holds of its security
 by-parts : (day : Day) (t : Trade) (st : Settings) (s : Security) (n : List ℕ) → day .settings ≡ st → securityAt day (t .security) ≡ s → nameAt day (t .security) ≡ n
-    → opt (printsTrade st s (t .market) (t .side)) (sideText (nameText (showsTemporary s) n) (s .issue .network) (s .issue .unit) (tradeFull st s (t .market) (t .side)) (tradeShows st s (t .market) (t .side)) (t .side)) ≡ tradePrint day t
+    → opt (printsTrade st s (t .market) (t .side)) (sideText (nameText (showsTemporary s) n) (s .issue .network) (s .issue .unit) (tradeForm st s (t .market) (t .side)) (tradeShows st s (t .market) (t .side)) (t .side)) ≡ tradePrint day t
 unfolding tradePrint
 by-parts day t st s n e f g = rw (← e, ← f, ← g)
 
 -- and of a cancel, an error, a correction
 cancel-parts : (opening : List ℕ) (day : Day) (t : Trade) (st : Settings) (s : Security) (n : List ℕ) → day .settings ≡ st → securityAt day (t .security) ≡ s → nameAt day (t .security) ≡ n
-    → cancelText opening (nameText false n) (s .issue .network) (s .issue .unit) (cancelFull st s (t .side)) (cancelShows st (t .side)) (t .side) ≡ cancelPrint opening day t
+    → cancelText opening (nameText false n) (s .issue .network) (s .issue .unit) (cancelForm st s (t .side)) (cancelShows st (t .side)) (t .side) ≡ cancelPrint opening day t
 unfolding cancelPrint
 cancel-parts opening day t st s n e f g = rw (← e, ← f, ← g)
 
 correction-parts : (day : Day) (c : Correction) (st : Settings) (s : Security) (n : List ℕ) → day .settings ≡ st → securityAt day (c .security) ≡ s → nameAt day (c .security) ≡ n
-    → opt (printsCorrection st s (c .original) (c .correcting)) (correctionText (nameText false n) (s .issue .network) (s .issue .unit) (correctionFull st s (c .original) (c .correcting)) (correctionShows st (c .original) (c .correcting)) (c .original) (c .correcting)) ≡ correctionPrint day c
+    → opt (printsCorrection st s (c .original) (c .correcting)) (correctionText (nameText false n) (s .issue .network) (s .issue .unit) (correctionForm st s (c .original) (c .correcting)) (correctionShows st (c .original) (c .correcting)) (c .original) (c .correcting)) ≡ correctionPrint day c
 unfolding correctionPrint
 correction-parts day c st s n e f g = rw (← e, ← f, ← g)
 

@@ -17,12 +17,12 @@ use Rattle.text.specs.Reading.{span}
 use Rattle.rules.specs.Announcement.{modeText, levelText}
 use Rattle.rules.specs.declared.Number.the-variants.{Is}
 use Rattle.rules.specs.Names.{nameText, hasTemporary, lawfulName, lawfulField, isReserved, isSuffix, isTemporary, isAppendage}
-use Rattle.rules.specs.Price.{units}
+use Rattle.rules.specs.Price.{units, formBy}
 use Rattle.rules.specs.Side.{sideText}
 use Rattle.text.specs.Bytes.{bytes}
 use Rattle.text.proofs.Parts.{all-append}
-use Rattle.rules.specs.Trade.{printsTrade, tradeFull, tradeShows, isNormal}
-use Rattle.rules.specs.Correction.{cancelText, correctionText, cancelOpening, errorOpening, cancelFull, cancelShows, printsCorrection, correctionFull, correctionShows}
+use Rattle.rules.specs.Trade.{printsTrade, tradeFull, tradeForm, tradeShows, isNormal}
+use Rattle.rules.specs.Correction.{cancelText, correctionText, cancelOpening, errorOpening, cancelFull, cancelForm, cancelShows, printsCorrection, correctionFull, correctionForm, correctionShows}
 use Rattle.rules.specs.Line.{isPrintable, isShaped, isKind, isFormed, isRanged, lineOf, ofKind, nameColumns, isUnit, isNetwork, isMode, modeOf, modeFormed, levelFormed, levelRanged}
 use Rattle.rules.specs.Refusal.{refuse}
 use Rattle.rules.specs.Day.{Day, cleared, isEntered, securityAt, tradeRefusal, correctionRefusal, stateRefusal, undated, refusalOf, printOf, tradePrint, cancelPrint, correctionPrint, showsTemporary, entered, afterLine}
@@ -49,6 +49,7 @@ use Rattle.claim_compose.proofs.ByKind.{line-by, formed-by, ranged-by}
 use Rattle.claim_compose.proofs.Sides.{SideSaid, side-said}
 use Rattle.claim_compose.proofs.Listing.{listedAs, listed-line, listing-accepted, kind-there, name-is, shape, not-zero, blanks-printable, blanks-blank}
 use Rattle.claim_compose.proofs.Sided.{tradeAs, correctionAs, trade-kind, trade-shaped, trade-formed, trade-ranged, trade-said, correction-kind, correction-shaped, correction-formed, correction-ranged, correction-said}
+use Rattle.rules.specs.declared.PriceForm.the-variants.{Full}
 
 opening-level : between 5000 100000 5000 ≡ true
 unfolding between
@@ -152,8 +153,8 @@ module _ (network unit : ℕ) (name : List ℕ) (h : Enterable network unit name
         (ranged-by 84 (tradeLine 84 x) (trade-kind 84 x) ∙ trade-ranged 84 x said)
         traded-line trade-passes
 
-    traded-print : printOf (dayWith 5000 1 network unit name) (Traded (tradeAs x)) ≡ sideText (nameText true name) network unit true true x
-    unfolding printOf tradePrint dayWith afterLine levelDay cleared listedAs entered tradeAs printsTrade tradeFull tradeShows isNormal showsTemporary opt
+    traded-print : printOf (dayWith 5000 1 network unit name) (Traded (tradeAs x)) ≡ sideText (nameText true name) network unit Full true x
+    unfolding printOf tradePrint dayWith afterLine levelDay cleared listedAs entered tradeAs printsTrade tradeFull tradeForm formBy pick tradeShows isNormal showsTemporary opt
     traded-print = refl
 
     traded-name : nameOf (dayWith 5000 1 network unit name) (Traded (tradeAs x)) ≡ nameText true name
@@ -165,9 +166,9 @@ module _ (network unit : ℕ) (name : List ℕ) (h : Enterable network unit name
     traded-fact = refl
 
     -- a trade
-    pub trade-normal : NormalPrint (sideText (nameText true name) network unit true true x) (nameText true name) (readTrade (units (x .price)) (conditionsOf x) (some (x .volume)))
+    pub trade-normal : NormalPrint (sideText (nameText true name) network unit Full true x) (nameText true name) (readTrade (units (x .price)) (conditionsOf x) (some (x .volume)))
     unfolding readFact
-    trade-normal = normal 5000 1 network unit name h opening-level opening-minimum (tradeLine 84 x) _ _ (Traded (tradeAs x)) _ _ traded-accepted traded-line traded-print (some-named (nameText true name) (name-some network name (h .plain) true) network unit true true x) traded-name traded-fact refl
+    trade-normal = normal 5000 1 network unit name h opening-level opening-minimum (tradeLine 84 x) _ _ (Traded (tradeAs x)) _ _ traded-accepted traded-line traded-print (some-named (nameText true name) (name-some network name (h .plain) true) network unit Full true x) traded-name traded-fact refl
 
     cancelled-line : lineOf (tradeLine 88 x) ≡ Cancelled (tradeAs x)
     unfolding ofKind pick
@@ -182,8 +183,8 @@ module _ (network unit : ℕ) (name : List ℕ) (h : Enterable network unit name
         (ranged-by 88 (tradeLine 88 x) (trade-kind 88 x) ∙ trade-ranged 88 x said)
         cancelled-line trade-passes
 
-    cancelled-print : printOf (dayWith 5000 1 network unit name) (Cancelled (tradeAs x)) ≡ cancelText cancelOpening (nameText false name) network unit true true x
-    unfolding printOf cancelPrint dayWith afterLine levelDay cleared listedAs entered tradeAs cancelFull cancelShows isNormal
+    cancelled-print : printOf (dayWith 5000 1 network unit name) (Cancelled (tradeAs x)) ≡ cancelText cancelOpening (nameText false name) network unit Full true x
+    unfolding printOf cancelPrint dayWith afterLine levelDay cleared listedAs entered tradeAs cancelFull cancelForm formBy pick cancelShows isNormal
     cancelled-print = refl
 
     cancelled-name : nameOf (dayWith 5000 1 network unit name) (Cancelled (tradeAs x)) ≡ nameText false name
@@ -195,9 +196,9 @@ module _ (network unit : ℕ) (name : List ℕ) (h : Enterable network unit name
     cancelled-fact = refl
 
     -- a cancel
-    pub cancel-normal : NormalPrint (cancelText cancelOpening (nameText false name) network unit true true x) (nameText false name) (readCancel (inFull (units (x .price)) (conditionsOf x) (x .volume)))
+    pub cancel-normal : NormalPrint (cancelText cancelOpening (nameText false name) network unit Full true x) (nameText false name) (readCancel (inFull (units (x .price)) (conditionsOf x) (x .volume)))
     unfolding readFact
-    cancel-normal = normal 5000 1 network unit name h opening-level opening-minimum (tradeLine 88 x) _ _ (Cancelled (tradeAs x)) _ _ cancelled-accepted cancelled-line cancelled-print (some-cancel cancelOpening (nameText false name) network unit true true x (omega arith)) cancelled-name cancelled-fact refl
+    cancel-normal = normal 5000 1 network unit name h opening-level opening-minimum (tradeLine 88 x) _ _ (Cancelled (tradeAs x)) _ _ cancelled-accepted cancelled-line cancelled-print (some-cancel cancelOpening (nameText false name) network unit Full true x (omega arith)) cancelled-name cancelled-fact refl
 
     erred-line : lineOf (tradeLine 69 x) ≡ Erred (tradeAs x)
     unfolding ofKind pick
@@ -212,8 +213,8 @@ module _ (network unit : ℕ) (name : List ℕ) (h : Enterable network unit name
         (ranged-by 69 (tradeLine 69 x) (trade-kind 69 x) ∙ trade-ranged 69 x said)
         erred-line trade-passes
 
-    erred-print : printOf (dayWith 5000 1 network unit name) (Erred (tradeAs x)) ≡ cancelText errorOpening (nameText false name) network unit true true x
-    unfolding printOf cancelPrint dayWith afterLine levelDay cleared listedAs entered tradeAs cancelFull cancelShows isNormal
+    erred-print : printOf (dayWith 5000 1 network unit name) (Erred (tradeAs x)) ≡ cancelText errorOpening (nameText false name) network unit Full true x
+    unfolding printOf cancelPrint dayWith afterLine levelDay cleared listedAs entered tradeAs cancelFull cancelForm formBy pick cancelShows isNormal
     erred-print = refl
 
     erred-name : nameOf (dayWith 5000 1 network unit name) (Erred (tradeAs x)) ≡ nameText false name
@@ -225,9 +226,9 @@ module _ (network unit : ℕ) (name : List ℕ) (h : Enterable network unit name
     erred-fact = refl
 
     -- an error
-    pub error-normal : NormalPrint (cancelText errorOpening (nameText false name) network unit true true x) (nameText false name) (readError (inFull (units (x .price)) (conditionsOf x) (x .volume)))
+    pub error-normal : NormalPrint (cancelText errorOpening (nameText false name) network unit Full true x) (nameText false name) (readError (inFull (units (x .price)) (conditionsOf x) (x .volume)))
     unfolding readFact
-    error-normal = normal 5000 1 network unit name h opening-level opening-minimum (tradeLine 69 x) _ _ (Erred (tradeAs x)) _ _ erred-accepted erred-line erred-print (some-cancel errorOpening (nameText false name) network unit true true x (omega arith)) erred-name erred-fact refl
+    error-normal = normal 5000 1 network unit name h opening-level opening-minimum (tradeLine 69 x) _ _ (Erred (tradeAs x)) _ _ erred-accepted erred-line erred-print (some-cancel errorOpening (nameText false name) network unit Full true x (omega arith)) erred-name erred-fact refl
 
   -- ---- C
 
@@ -249,8 +250,8 @@ module _ (network unit : ℕ) (name : List ℕ) (h : Enterable network unit name
         (ranged-by 67 (correctionLine x y) (correction-kind x y) ∙ correction-ranged x y (side-said network x w) (side-said network y v))
         corrected-line correction-passes
 
-    corrected-print : printOf (dayWith 5000 1 network unit name) (Corrected (correctionAs x y)) ≡ correctionText (nameText false name) network unit true true x y
-    unfolding printOf correctionPrint dayWith afterLine levelDay cleared listedAs entered correctionAs printsCorrection correctionFull correctionShows isNormal opt
+    corrected-print : printOf (dayWith 5000 1 network unit name) (Corrected (correctionAs x y)) ≡ correctionText (nameText false name) network unit Full true x y
+    unfolding printOf correctionPrint dayWith afterLine levelDay cleared listedAs entered correctionAs printsCorrection correctionFull correctionForm formBy pick correctionShows isNormal opt
     corrected-print = refl
 
     corrected-name : nameOf (dayWith 5000 1 network unit name) (Corrected (correctionAs x y)) ≡ nameText false name
@@ -262,9 +263,9 @@ module _ (network unit : ℕ) (name : List ℕ) (h : Enterable network unit name
     corrected-fact = refl
 
     -- a correction
-    pub correction-normal : NormalPrint (correctionText (nameText false name) network unit true true x y) (nameText false name) (readCorrection (inFull (units (x .price)) (conditionsOf x) (x .volume)) (inFull (units (y .price)) (conditionsOf y) (y .volume)))
+    pub correction-normal : NormalPrint (correctionText (nameText false name) network unit Full true x y) (nameText false name) (readCorrection (inFull (units (x .price)) (conditionsOf x) (x .volume)) (inFull (units (y .price)) (conditionsOf y) (y .volume)))
     unfolding readFact
-    correction-normal = normal 5000 1 network unit name h opening-level opening-minimum (correctionLine x y) _ _ (Corrected (correctionAs x y)) _ _ corrected-accepted corrected-line corrected-print (some-correction (nameText false name) network unit true true x y) corrected-name corrected-fact refl
+    correction-normal = normal 5000 1 network unit name h opening-level opening-minimum (correctionLine x y) _ _ (Corrected (correctionAs x y)) _ _ corrected-accepted corrected-line corrected-print (some-correction (nameText false name) network unit Full true x y) corrected-name corrected-fact refl
 
 -- ---- announcements, with any security entered
 

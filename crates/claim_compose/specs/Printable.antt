@@ -15,6 +15,7 @@ use Rattle.rules.specs.NormalPrint.{ReadFact, readAnnouncement, readTrade, read
 use Rattle.rules.specs.declared.Mode.{Mode}
 use Rattle.rules.specs.declared.Side.{Side}
 use Rattle.claim_compose.specs.Shown.{Enterable, Showable}
+use Rattle.rules.specs.declared.PriceForm.the-variants.{Full}
 
 -- the part that a side is in normal mode
 abbrev pub partIn : Side → Part
@@ -24,7 +25,7 @@ partIn x = inFull (units (x .price)) (conditionsOf x) (x .volume)
 pub data Printable : List ℕ → List ℕ → ReadFact → Type 0 where
   by-mode : (m : Mode) (n : ℕ) → between 1 100 n ≡ true → Printable (modeText m n) [] (readAnnouncement (modeText m n))
   by-level : (n : ℕ) → between 5000 100000 n ≡ true → Printable (levelText n) [] (readAnnouncement (levelText n))
-  by-trade : (network unit : ℕ) (name : List ℕ) (x : Side) → Enterable network unit name → Showable network x → Printable (sideText (nameText true name) network unit true true x) (nameText true name) (readTrade (units (x .price)) (conditionsOf x) (some (x .volume)))
-  by-cancel : (network unit : ℕ) (name : List ℕ) (x : Side) → Enterable network unit name → Showable network x → Printable (cancelText cancelOpening (nameText false name) network unit true true x) (nameText false name) (readCancel (partIn x))
-  by-error : (network unit : ℕ) (name : List ℕ) (x : Side) → Enterable network unit name → Showable network x → Printable (cancelText errorOpening (nameText false name) network unit true true x) (nameText false name) (readError (partIn x))
-  by-correction : (network unit : ℕ) (name : List ℕ) (x y : Side) → Enterable network unit name → Showable network x → Showable network y → Printable (correctionText (nameText false name) network unit true true x y) (nameText false name) (readCorrection (partIn x) (partIn y))
+  by-trade : (network unit : ℕ) (name : List ℕ) (x : Side) → Enterable network unit name → Showable network x → Printable (sideText (nameText true name) network unit Full true x) (nameText true name) (readTrade (units (x .price)) (conditionsOf x) (some (x .volume)))
+  by-cancel : (network unit : ℕ) (name : List ℕ) (x : Side) → Enterable network unit name → Showable network x → Printable (cancelText cancelOpening (nameText false name) network unit Full true x) (nameText false name) (readCancel (partIn x))
+  by-error : (network unit : ℕ) (name : List ℕ) (x : Side) → Enterable network unit name → Showable network x → Printable (cancelText errorOpening (nameText false name) network unit Full true x) (nameText false name) (readError (partIn x))
+  by-correction : (network unit : ℕ) (name : List ℕ) (x y : Side) → Enterable network unit name → Showable network x → Showable network y → Printable (correctionText (nameText false name) network unit Full true x y) (nameText false name) (readCorrection (partIn x) (partIn y))

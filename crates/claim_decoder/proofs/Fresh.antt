@@ -28,6 +28,7 @@ use Rattle.print_side.proofs.SideBack.{side-lower}
 use Rattle.name_back.specs.Plain.{NamePlain}
 use Rattle.name_back.proofs.Root.{root-text}
 use Rattle.name_back.proofs.Parts.{each, member-each, suffix-case, field-case}
+use Rattle.rules.specs.declared.PriceForm.{PriceForm}
 
 pub record Fresh (s : List ℕ) : Type 0 where
   pub ends : Ends s
@@ -306,6 +307,6 @@ module _ (network : ℕ) (n : List ℕ) (h : NamePlain network n) where
       (fresh-text (word (rootField n)) _ root-is
       (simp append-assoc at (mild-append (partText (word (suffixField n)) ++ (opt b (partText (word (temporaryField n))) ++ partText (word (appendageField n)))) (afterName x ++ s) (tail-mild b) (mild-append (afterName x) s (conditions-mild x) (lower-mild s k)))))
 
-pub side-fresh : (network : ℕ) (n : List ℕ) → NamePlain network n → (b : Bool) (unit : ℕ) (full shows : Bool) (x : Side) → 1 ≤ x .price .n → (s : List ℕ) → Fresh (sideText (nameText b n) network unit full shows x ++ s)
+pub side-fresh : (network : ℕ) (n : List ℕ) → NamePlain network n → (b : Bool) (unit : ℕ) (form : PriceForm) (shows : Bool) (x : Side) → 1 ≤ x .price .n → (s : List ℕ) → Fresh (sideText (nameText b n) network unit form shows x ++ s)
 unfolding sideText headText
-side-fresh network n plain b unit full shows x h s = rw (append-assoc, append-assoc, append-assoc) (fresh-name network n plain b (x .letters) _ (side-lower network unit (x .volume) full shows (x .price) (tailText x ++ s) h))
+side-fresh network n plain b unit form shows x h s = rw (append-assoc, append-assoc, append-assoc) (fresh-name network n plain b (x .letters) _ (side-lower network unit (x .volume) form shows (x .price) (tailText x ++ s) h))

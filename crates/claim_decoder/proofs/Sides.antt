@@ -13,10 +13,10 @@ use borrow.Author.Tests.{leb-false, eqb-true, eqb-false, le-leb, not-false}
 use Rattle.text.specs.Pick.{pick, same}
 use Rattle.text.proofs.Booleans.{or-left, or-right, false-true, nonzero}
 use Rattle.rules.specs.Columns.{between}
-use Rattle.rules.specs.Price.{wholePart, fraction, units}
+use Rattle.rules.specs.Price.{wholePart, fraction, units, formBy}
 use Rattle.rules.specs.Volume.{volumeText, fullVolume}
 use Rattle.rules.specs.Trade as trade
-use Rattle.rules.specs.Trade.{endsInZero, dollars, fullAt, fullPrice, isNormal, tradeFull}
+use Rattle.rules.specs.Trade.{endsInZero, dollars, fullAt, fullPrice, isNormal, tradeFull, tradeForm}
 use Rattle.rules.specs.Shown.{shownLetters, conditionsOf}
 use Rattle.rules.specs.declared.Mode.{Mode}
 use Rattle.rules.specs.declared.Price.{Price}
@@ -25,12 +25,13 @@ use Rattle.rules.specs.declared.Settings.{Settings}
 use Rattle.rules.specs.declared.Security.{Security}
 use Rattle.print_volume.specs.Reading.{Mark, hundreds, tens, shares, markText, Shown, unsaid, said, sharesOf, shownOf, shownText}
 use Rattle.print_volume.proofs.VolumeBack.{volume-shown, shares-back}
-use Rattle.print_price.specs.Reading.{shownPrice}
+use Rattle.print_price.specs.Reading.{shownWhole, shownPrice}
 use Rattle.print_price.proofs.PriceBack.{full-price}
 use Rattle.print_conditions.specs.Reading.{if-there, tailOf}
 use Rattle.name_back.specs.Cut.{plain, opened, sold, last, soldOf, afterOf, oneSold}
 use Rattle.claim_decoder.specs.Decode.{given, valueIn, isOpened, isSold, isLast, conditionsBy, priceBy, volumeBy}
 use Rattle.claim_decoder.specs.Lawful.{LawfulSide}
+use Rattle.rules.specs.declared.PriceForm.the-variants.{Full, Short}
 
 -- ---- conditions
 
@@ -75,20 +76,20 @@ part-small p h =
     let e : 10 ^ p .d * 10 ^ (8 - p .d) ≡ 100000000 = sym (pow-add 10 (p .d) (8 - p .d)) ∙ ap (λ (k : ℕ). 10 ^ k) (add-sub-of-le h) in
     subst (λ (k : ℕ). part p < k) e (mul-lt-mul-of-pos-right f (one-le-pow (8 - p .d) 10 (omega arith)))
 
-shown-full : (p : Price) → shownPrice true p ≡ wholePart p * 100000000 + part p
-unfolding shownPrice pick
+shown-full : (p : Price) → shownPrice Full p ≡ wholePart p * 100000000 + part p
+unfolding shownPrice shownWhole
 shown-full p = refl
 
-shown-short : (p : Price) → shownPrice false p ≡ wholePart p % 10 * 100000000 + part p
-unfolding shownPrice pick
+shown-short : (p : Price) → shownPrice Short p ≡ wholePart p % 10 * 100000000 + part p
+unfolding shownPrice shownWhole
 shown-short p = refl
 
 -- what a price that is not full says of the last printed
-record Short (s : Security) (w : ℕ) : Type 0 where
+record Shortened (s : Security) (w : ℕ) : Type 0 where
   same-tens : w / 10 ≡ dollars (s .printed .price) / 10
   some-digit : w % 10 ≡ 0 → ⊥
 
-short-is : (s : Security) (market : ℕ) (x : Side) → fullPrice s market x ≡ false → Short s (wholePart (x .price))
+short-is : (s : Security) (market : ℕ) (x : Side) → fullPrice s market x ≡ false → Shortened s (wholePart (x .price))
 unfolding fullPrice fullAt trade.tens endsInZero
 short-is s market x h =
     let w = wholePart (x .price) in
@@ -116,17 +117,17 @@ module _ (s : Security) (x : Side) (h : LawfulSide x) where
   abbrev Decoded : Bool → ℕ → Type 0
   Decoded m price = pick (not m && (between 1 9 (dollars price) && leb 10 (dollars (s .printed .price)))) (trade.tens (dollars (s .printed .price)) * 10 * 100000000 + price) price ≡ units p
 
-  in-full : (m : Bool) → (not m && (between 1 9 w && leb 10 (dollars (s .printed .price)))) ≡ false → Decoded m (shownPrice true p)
+  in-full : (m : Bool) → (not m && (between 1 9 w && leb 10 (dollars (s .printed .price)))) ≡ false → Decoded m (shownPrice Full p)
   unfolding pick
   in-full m k =
-      let e : dollars (shownPrice true p) ≡ w = ap dollars (shown-full p) ∙ dollars-of w (part p) (part-small p (h .decimals)) in
+      let e : dollars (shownPrice Full p) ≡ w = ap dollars (shown-full p) ∙ dollars-of w (part p) (part-small p (h .decimals)) in
       rw (e, k) (full-price p (h .decimals))
 
-  in-short : Short s w → Decoded false (shownPrice false p)
+  in-short : Shortened s w → Decoded false (shownPrice Short p)
   unfolding pick trade.tens
   in-short k = go (leb 10 (dollars (s .printed .price))) refl
     where
-      e : dollars (shownPrice false p) ≡ w % 10
+      e : dollars (shownPrice Short p) ≡ w % 10
       e = ap dollars (shown-short p) ∙ dollars-of (w % 10) (part p) (part-small p (h .decimals))
 
       digit : between 1 9 (w % 10) ≡ true
@@ -135,17 +136,17 @@ module _ (s : Security) (x : Side) (h : LawfulSide x) where
       whole : units p ≡ w * 100000000 + part p
       whole = sym (full-price p (h .decimals)) ∙ shown-full p
 
-      go : (b : Bool) → leb 10 (dollars (s .printed .price)) ≡ b → Decoded false (shownPrice false p)
+      go : (b : Bool) → leb 10 (dollars (s .printed .price)) ≡ b → Decoded false (shownPrice Short p)
       go true q = rw (e, digit, q) (rw (shown-short p) (omega (arith, k .same-tens, whole)))
       go false q = rw (e, digit, q) (rw (shown-short p) (omega (arith, k .same-tens, whole, leb-false 10 (dollars (s .printed .price)) q)))
 
 -- THE PRICE IS THE ONE SHOWN, where the premise holds
 pub price-by : (st : Settings) (s : Security) (market : ℕ) (x : Side) → LawfulSide x → (not (isNormal (st .mode)) && (between 1 9 (wholePart (x .price)) && leb 10 (dollars (s .printed .price)))) ≡ false
-    → priceBy (st .mode) (s .printed .price) (shownPrice (tradeFull st s market x) (x .price)) ≡ units (x .price)
-unfolding priceBy tradeFull
+    → priceBy (st .mode) (s .printed .price) (shownPrice (tradeForm st s market x) (x .price)) ≡ units (x .price)
+unfolding priceBy tradeForm tradeFull formBy pick
 price-by st s market x h k = go (isNormal (st .mode)) (fullPrice s market x) k (short-is s market x)
   where
-    go : (m f : Bool) → (not m && (between 1 9 (wholePart (x .price)) && leb 10 (dollars (s .printed .price)))) ≡ false → (f ≡ false → Short s (wholePart (x .price))) → Decoded s x h m (shownPrice (m || f) (x .price))
+    go : (m f : Bool) → (not m && (between 1 9 (wholePart (x .price)) && leb 10 (dollars (s .printed .price)))) ≡ false → (f ≡ false → Shortened s (wholePart (x .price))) → Decoded s x h m (shownPrice (formBy (m || f)) (x .price))
     go true f k e = in-full s x h true k
     go false true k e = in-full s x h false k
     go false false k e = in-short s x h (e refl)

@@ -13,7 +13,7 @@ use Rattle.text.proofs.Parts.{heads-append, all-opt, all-append}
 use Rattle.rules.specs.Tape.{isLetter, isUpper}
 use Rattle.rules.specs.Names.{nameText, hasTemporary}
 use Rattle.rules.specs.Conditions.{afterName}
-use Rattle.rules.specs.Price.{units}
+use Rattle.rules.specs.Price.{units, formBy}
 use Rattle.rules.specs.Side.{headText, sideText}
 use Rattle.rules.specs.Trade.{isNormal}
 use Rattle.rules.specs.Announcement.{modeText, levelText, minimumText}
@@ -44,6 +44,7 @@ use Rattle.claim_decoder.specs.Lawful.{LawfulSide}
 use Rattle.claim_decoder.proofs.Sides.{conditions-by, given-is}
 use Rattle.claim_decoder.proofs.Lookup.{number-back, suffix-back}
 use Rattle.claim_decoder.proofs.Fresh.{Fresh, fresh-was, letter-unlike}
+use Rattle.rules.specs.declared.PriceForm.{PriceForm}
 
 -- a security that is known by its name
 pub record Known (names : Names) (network i : ℕ) : Type 0 where
@@ -77,28 +78,28 @@ unfolding decode starts pick isLetter
 decode-trade names d [] h = absurd (false-true h)
 decode-trade names d (c ∷ t) h = rw (letter-unlike 60 c h refl)
 
-side-head : (name : List ℕ) (network unit : ℕ) (full shows : Bool) (x : Side) (s : List ℕ) → heads isLetter name ≡ true → heads isLetter (sideText name network unit full shows x ++ s) ≡ true
+side-head : (name : List ℕ) (network unit : ℕ) (form : PriceForm) (shows : Bool) (x : Side) (s : List ℕ) → heads isLetter name ≡ true → heads isLetter (sideText name network unit form shows x ++ s) ≡ true
 unfolding sideText headText
-side-head name network unit full shows x s h =
+side-head name network unit form shows x s h =
     simp append-assoc (heads-append isLetter name _ h)
 
 -- what the decoder finds of a trade's print
-pub trade-undone : (names : Names) (network i : ℕ) → Known names network i → (d : Carried) (b : Bool) (unit : ℕ) (full shows : Bool) (x : Side) (s : List ℕ) → LawfulSide x → Fresh s
-    → decode names d (sideText (nameText b (nameIn names i)) network unit full shows x ++ s)
-    ≡ there (traded i (b && hasTemporary (nameIn names i)) (priceBy (d .mode) (getD (d .printed) (i - 1) 0) (shownPrice full (x .price))) (conditionsOf x) (volumeBy (d .mode) (pick shows (shownOf network unit (x .volume)) unsaid))) s
+pub trade-undone : (names : Names) (network i : ℕ) → Known names network i → (d : Carried) (b : Bool) (unit : ℕ) (form : PriceForm) (shows : Bool) (x : Side) (s : List ℕ) → LawfulSide x → Fresh s
+    → decode names d (sideText (nameText b (nameIn names i)) network unit form shows x ++ s)
+    ≡ there (traded i (b && hasTemporary (nameIn names i)) (priceBy (d .mode) (getD (d .printed) (i - 1) 0) (shownPrice form (x .price))) (conditionsOf x) (volumeBy (d .mode) (pick shows (shownOf network unit (x .volume)) unsaid))) s
 unfolding decodeTrade tradeBy sideShown opt
-trade-undone names network i k d b unit full shows x s h f =
+trade-undone names network i k d b unit form shows x s h f =
     let n = nameIn names i in
-    decode-trade names d (sideText (nameText b n) network unit full shows x ++ s) (side-head (nameText b n) network unit full shows x s (name-head network n (k .is-plain) b))
-    ∙ rw (side-back (nameText b n) network unit full shows x s (side-ok network n (k .is-plain) true b x h) (f .ends), head-back names network i k b x h, conditions-by x h, suffix-back b n)
+    decode-trade names d (sideText (nameText b n) network unit form shows x ++ s) (side-head (nameText b n) network unit form shows x s (name-head network n (k .is-plain) b))
+    ∙ rw (side-back (nameText b n) network unit form shows x s (side-ok network n (k .is-plain) true b x h) (f .ends), head-back names network i k b x h, conditions-by x h, suffix-back b n)
 
 -- ---- a side of a correction, cancel or error
 
-part-by : (mode : Mode) (name : List ℕ) (network unit : ℕ) (full shows : Bool) (x : Side) → LawfulSide x → partBy mode (afterOf (x .letters)) (sideShown name network unit (isNormal mode || full) (isNormal mode || shows) x) ≡ partOf (isNormal mode) x
-unfolding partBy partOf sideShown pick
+part-by : (mode : Mode) (name : List ℕ) (network unit : ℕ) (full shows : Bool) (x : Side) → LawfulSide x → partBy mode (afterOf (x .letters)) (sideShown name network unit (formBy (isNormal mode || full)) (isNormal mode || shows) x) ≡ partOf (isNormal mode) x
+unfolding partBy partOf sideShown formBy pick
 part-by mode name network unit full shows x h = rw (conditions-by x h) (go (isNormal mode))
   where
-    go : (m : Bool) → pick m (inFull (shownPrice (m || full) (x .price)) (conditionsOf x) (sharesOf (pick (m || shows) (shownOf network unit (x .volume)) unsaid))) (bare (conditionsOf x)) ≡ pick m (inFull (units (x .price)) (conditionsOf x) (x .volume)) (bare (conditionsOf x))
+    go : (m : Bool) → pick m (inFull (shownPrice (formBy (m || full)) (x .price)) (conditionsOf x) (sharesOf (pick (m || shows) (shownOf network unit (x .volume)) unsaid))) (bare (conditionsOf x)) ≡ pick m (inFull (units (x .price)) (conditionsOf x) (x .volume)) (bare (conditionsOf x))
     go true = rw (full-price (x .price) (h .decimals), shares-back network unit (x .volume))
     go false = refl
 
@@ -119,22 +120,22 @@ end-ends x s f = go (x .letters .g)
     go true = f .ends
     go false = f .pair
 
-head-of : (names : Names) (network i : ℕ) → Known names network i → (unit : ℕ) (full shows : Bool) (x : Side) → LawfulSide x → headOf names ((sideShown (nameText false (nameIn names i)) network unit full shows x) .head) ≡ some (record { number = i; name = nameText false (nameIn names i); after = afterOf (x .letters) })
+head-of : (names : Names) (network i : ℕ) → Known names network i → (unit : ℕ) (form : PriceForm) (shows : Bool) (x : Side) → LawfulSide x → headOf names ((sideShown (nameText false (nameIn names i)) network unit form shows x) .head) ≡ some (record { number = i; name = nameText false (nameIn names i); after = afterOf (x .letters) })
 unfolding sideShown
-head-of names network i k unit full shows x h = head-back names network i k false x h
+head-of names network i k unit form shows x h = head-back names network i k false x h
 
-pub end-of : (name : List ℕ) (network unit : ℕ) (full shows : Bool) (x : Side) (s : List ℕ) → ended ((sideShown name network unit full shows x) .tail) (endPair x ++ s) ≡ s
+pub end-of : (name : List ℕ) (network unit : ℕ) (form : PriceForm) (shows : Bool) (x : Side) (s : List ℕ) → ended ((sideShown name network unit form shows x) .tail) (endPair x ++ s) ≡ s
 unfolding sideShown
-end-of name network unit full shows x s = end-back x s
+end-of name network unit form shows x s = end-back x s
 
 -- ---- a cancel, an error
 
 pub cancel-back : (kind : ℕ → Part → Fact) (names : Names) (network i : ℕ) → Known names network i → (mode : Mode) (unit : ℕ) (full shows : Bool) (x : Side) (s : List ℕ) → LawfulSide x → Fresh s
-    → decodeCancel kind names mode (sideText (nameText false (nameIn names i)) network unit (isNormal mode || full) (isNormal mode || shows) x ++ (endPair x ++ s)) ≡ there (kind i (partOf (isNormal mode) x)) s
+    → decodeCancel kind names mode (sideText (nameText false (nameIn names i)) network unit (formBy (isNormal mode || full)) (isNormal mode || shows) x ++ (endPair x ++ s)) ≡ there (kind i (partOf (isNormal mode) x)) s
 unfolding decodeCancel cancelBy opt
 cancel-back kind names network i k mode unit full shows x s h f =
     let n = nameIn names i in
-    rw (side-back (nameText false n) network unit (isNormal mode || full) (isNormal mode || shows) x (endPair x ++ s) (side-ok network n (k .is-plain) true false x h) (end-ends x s f), head-of names network i k unit (isNormal mode || full) (isNormal mode || shows) x h, part-by mode (nameText false n) network unit full shows x h, end-of (nameText false n) network unit (isNormal mode || full) (isNormal mode || shows) x s)
+    rw (side-back (nameText false n) network unit (formBy (isNormal mode || full)) (isNormal mode || shows) x (endPair x ++ s) (side-ok network n (k .is-plain) true false x h) (end-ends x s f), head-of names network i k unit (formBy (isNormal mode || full)) (isNormal mode || shows) x h, part-by mode (nameText false n) network unit full shows x h, end-of (nameText false n) network unit (formBy (isNormal mode || full)) (isNormal mode || shows) x s)
 
 decode-cancel : (names : Names) (d : Carried) (t : List ℕ) → decode names d (bytes "<<CXL." ++ t) ≡ decodeCancel cancelled names (d .mode) t
 unfolding decode starts past pick
@@ -149,11 +150,11 @@ unfolding decode starts past pick
 decode-correction names d t = refl
 
 module _ (names : Names) (network i : ℕ) (k : Known names network i) (d : Carried) (unit : ℕ) (full shows : Bool) (x : Side) (s : List ℕ) (h : LawfulSide x) (f : Fresh s) where
-  pub cancel-undone : decode names d (cancelText cancelOpening (nameText false (nameIn names i)) network unit (isNormal (d .mode) || full) (isNormal (d .mode) || shows) x ++ s) ≡ there (cancelled i (partOf (isNormal (d .mode)) x)) s
+  pub cancel-undone : decode names d (cancelText cancelOpening (nameText false (nameIn names i)) network unit (formBy (isNormal (d .mode) || full)) (isNormal (d .mode) || shows) x ++ s) ≡ there (cancelled i (partOf (isNormal (d .mode)) x)) s
   unfolding cancelText
   cancel-undone = rw (append-assoc, append-assoc) (decode-cancel names d _ ∙ cancel-back cancelled names network i k (d .mode) unit full shows x s h f)
 
-  pub error-undone : decode names d (cancelText errorOpening (nameText false (nameIn names i)) network unit (isNormal (d .mode) || full) (isNormal (d .mode) || shows) x ++ s) ≡ there (erred i (partOf (isNormal (d .mode)) x)) s
+  pub error-undone : decode names d (cancelText errorOpening (nameText false (nameIn names i)) network unit (formBy (isNormal (d .mode) || full)) (isNormal (d .mode) || shows) x ++ s) ≡ there (erred i (partOf (isNormal (d .mode)) x)) s
   unfolding cancelText
   error-undone = rw (append-assoc, append-assoc) (decode-error names d _ ∙ cancel-back erred names network i k (d .mode) unit full shows x s h f)
 
@@ -196,29 +197,29 @@ module _ (names : Names) (network i : ℕ) (k : Known names network i) (mode : M
   m = opt (repeatsName (y .letters)) n
 
   abbrev first : List ℕ
-  first = sideText n network unit (isNormal mode || full) (isNormal mode || shows) x
+  first = sideText n network unit (formBy (isNormal mode || full)) (isNormal mode || shows) x
 
   abbrev second : List ℕ
-  second = sideText m network unit (isNormal mode || full) (isNormal mode || shows) y
+  second = sideText m network unit (formBy (isNormal mode || full)) (isNormal mode || shows) y
 
-  read-first : readSide (first ++ (bytes "WAS." ++ (second ++ (endPair y ++ s)))) ≡ found (sideShown n network unit (isNormal mode || full) (isNormal mode || shows) x) (bytes "WAS." ++ (second ++ (endPair y ++ s)))
+  read-first : readSide (first ++ (bytes "WAS." ++ (second ++ (endPair y ++ s)))) ≡ found (sideShown n network unit (formBy (isNormal mode || full)) (isNormal mode || shows) x) (bytes "WAS." ++ (second ++ (endPair y ++ s)))
   unfolding opt
-  read-first = side-back n network unit (isNormal mode || full) (isNormal mode || shows) x _ (side-ok network (nameIn names i) (k .is-plain) true false x h) (fresh-was (second ++ (endPair y ++ s)))
+  read-first = side-back n network unit (formBy (isNormal mode || full)) (isNormal mode || shows) x _ (side-ok network (nameIn names i) (k .is-plain) true false x h) (fresh-was (second ++ (endPair y ++ s)))
 
-  read-second : readSide (second ++ (endPair y ++ s)) ≡ found (sideShown m network unit (isNormal mode || full) (isNormal mode || shows) y) (endPair y ++ s)
-  read-second = side-back m network unit (isNormal mode || full) (isNormal mode || shows) y (endPair y ++ s) (side-ok network (nameIn names i) (k .is-plain) (repeatsName (y .letters)) false y l) (end-ends y s f)
+  read-second : readSide (second ++ (endPair y ++ s)) ≡ found (sideShown m network unit (formBy (isNormal mode || full)) (isNormal mode || shows) y) (endPair y ++ s)
+  read-second = side-back m network unit (formBy (isNormal mode || full)) (isNormal mode || shows) y (endPair y ++ s) (side-ok network (nameIn names i) (k .is-plain) (repeatsName (y .letters)) false y l) (end-ends y s f)
 
-  after-of : afterBy ((sideShown m network unit (isNormal mode || full) (isNormal mode || shows) y) .head) ≡ afterOf (y .letters)
+  after-of : afterBy ((sideShown m network unit (formBy (isNormal mode || full)) (isNormal mode || shows) y) .head) ≡ afterOf (y .letters)
   unfolding sideShown
   after-of = correcting-after network (nameIn names i) (k .is-plain) y l
 
   correction-back : decodeCorrection names mode (first ++ (bytes "WAS." ++ (second ++ (endPair y ++ s)))) ≡ there (corrected i (partOf (isNormal mode) x) (partOf (isNormal mode) y)) s
   unfolding decodeCorrection correctionBy
   correction-back =
-      rw (read-first, past-append (bytes "WAS.") (second ++ (endPair y ++ s)), read-second, head-of names network i k unit (isNormal mode || full) (isNormal mode || shows) x h, after-of, part-by mode n network unit full shows x h, part-by mode m network unit full shows y l, end-of m network unit (isNormal mode || full) (isNormal mode || shows) y s)
+      rw (read-first, past-append (bytes "WAS.") (second ++ (endPair y ++ s)), read-second, head-of names network i k unit (formBy (isNormal mode || full)) (isNormal mode || shows) x h, after-of, part-by mode n network unit full shows x h, part-by mode m network unit full shows y l, end-of m network unit (formBy (isNormal mode || full)) (isNormal mode || shows) y s)
 
 pub correction-undone : (names : Names) (network i : ℕ) → Known names network i → (d : Carried) (unit : ℕ) (full shows : Bool) (x y : Side) (s : List ℕ) → LawfulSide x → LawfulSide y → Fresh s
-    → decode names d (correctionText (nameText false (nameIn names i)) network unit (isNormal (d .mode) || full) (isNormal (d .mode) || shows) x y ++ s) ≡ there (corrected i (partOf (isNormal (d .mode)) x) (partOf (isNormal (d .mode)) y)) s
+    → decode names d (correctionText (nameText false (nameIn names i)) network unit (formBy (isNormal (d .mode) || full)) (isNormal (d .mode) || shows) x y ++ s) ≡ there (corrected i (partOf (isNormal (d .mode)) x) (partOf (isNormal (d .mode)) y)) s
 unfolding correctionText
 correction-undone names network i k d unit full shows x y s h l f =
     rw (append-assoc, append-assoc, append-assoc, append-assoc) (decode-correction names d _ ∙ correction-back names network i k (d .mode) unit full shows x y s h l f)

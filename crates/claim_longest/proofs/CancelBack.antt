@@ -53,6 +53,7 @@ use Rattle.claim_longest.proofs.Figures.{unmarked-pair}
 use Rattle.claim_longest.proofs.TailExact.{lettersBefore, ended-pair, TailEnd, ended, more}
 use Rattle.claim_longest.proofs.SideExact.{Closes, SideEnds, side-ends}
 use Rattle.claim_longest.proofs.TradeBack.{flag-there, volume-in}
+use Rattle.rules.specs.declared.PriceForm.the-variants.{Full}
 
 -- behind the end pair
 pub closes-pair : (s : List ℕ) → Closes (bytes ">>" ++ s)
@@ -97,22 +98,22 @@ module _ (error : Bool) (opening : List ℕ) (six : length opening ≡ 6) (netwo
   head = nameText false name ++ afterName (x .letters)
 
   abbrev rest : List ℕ
-  rest = volumeText network unit (x .volume) ++ (priceText true (x .price) ++ (tailText x ++ (endPair x ++ R)))
+  rest = volumeText network unit (x .volume) ++ (priceText Full (x .price) ++ (tailText x ++ (endPair x ++ R)))
 
-  joined : cancelText opening (nameText false name) network unit true true x ++ R ≡ opening ++ (head ++ rest)
+  joined : cancelText opening (nameText false name) network unit Full true x ++ R ≡ opening ++ (head ++ rest)
   unfolding cancelText sideText headText opt
   joined = simp append-assoc
 
-  size : length (cancelText opening (nameText false name) network unit true true x) ≡ 6 + (length head + (length (volumeText network unit (x .volume)) + (length (priceText true (x .price)) + length (tailText x)))) + length (endPair x)
+  size : length (cancelText opening (nameText false name) network unit Full true x) ≡ 6 + (length head + (length (volumeText network unit (x .volume)) + (length (priceText Full (x .price)) + length (tailText x)))) + length (endPair x)
   unfolding cancelText sideText headText opt
   size =
       let v = volumeText network unit (x .volume) in
-      let p = priceText true (x .price) in
+      let p = priceText Full (x .price) in
       omega (six, length-append (opening ++ (head ++ v ++ p ++ tailText x)) (endPair x), length-append opening (head ++ v ++ p ++ tailText x), length-append (head ++ v ++ p) (tailText x), length-append (head ++ v) p, length-append head v, arith)
 
   lower : heads isUpper rest ≡ false
   unfolding opt
-  lower = side-lower network unit (x .volume) true true (x .price) (tailText x ++ (endPair x ++ R)) (some-price (x .price) (h .price-fits))
+  lower = side-lower network unit (x .volume) Full true (x .price) (tailText x ++ (endPair x ++ R)) (some-price (x .price) (h .price-fits))
 
   headed : headAt false (head ++ rest) ≡ Named (headRead false (nameText false name) (x .letters))
   headed = head-found false network name (e .on) (e .plain) (x .letters) (shown-n network x h) (shown-sold network x h) rest lower
@@ -131,12 +132,12 @@ module _ (error : Bool) (opening : List ℕ) (six : length opening ≡ 6) (netwo
   further = sym (drop-drop (length head) 6 tape) ∙ ap (drop (length head)) behind ∙ drop-append-seam head rest
 
   abbrev size-of : ℕ
-  size-of = length (volumeText network unit (x .volume)) + (length (priceText true (x .price)) + length (tailText x))
+  size-of = length (volumeText network unit (x .volume)) + (length (priceText Full (x .price)) + length (tailText x))
 
   at-end : drop (6 + length head + size-of) tape ≡ endPair x ++ R
   at-end =
       let v = volumeText network unit (x .volume) in
-      let p = priceText true (x .price) in
+      let p = priceText Full (x .price) in
       let r = endPair x ++ R in
       let k : v ++ (p ++ (tailText x ++ r)) ≡ (v ++ (p ++ tailText x)) ++ r = simp append-assoc in
       let l : size-of ≡ length (v ++ (p ++ tailText x)) = omega (length-append v (p ++ tailText x), length-append p (tailText x), arith) in
@@ -154,7 +155,7 @@ module _ (error : Bool) (opening : List ℕ) (six : length opening ≡ 6) (netwo
   ending end (more g l u s) = omega (end-by-g tape (6 + length head + end .used) (end .side) (ap (λ y. y .g) l), u, pair-short x, arith)
 
   -- THE CANCEL, WHOLE AT LEAST
-  pub cancel-reaches : CancelReaches (cancelText opening (nameText false name) network unit true true x ++ R) error (length (cancelText opening (nameText false name) network unit true true x))
+  pub cancel-reaches : CancelReaches (cancelText opening (nameText false name) network unit Full true x ++ R) error (length (cancelText opening (nameText false name) network unit Full true x))
   unfolding cancelAt cancelHead cancelSide headRead endedBy pick
   cancel-reaches =
       let r = sided in

@@ -64,6 +64,7 @@ use Rattle.claim_longest.proofs.TailExact.{ended-was, setG}
 use Rattle.claim_longest.proofs.SideBack.{shown-c, rule-network, previous-network}
 use Rattle.claim_longest.proofs.Tail.{dropped-all}
 use Rattle.claim_longest.proofs.CancelBack.{closes-pair, end-by-g, end-reaches, pair-short}
+use Rattle.rules.specs.declared.PriceForm.the-variants.{Full}
 
 -- behind the original
 closes-was : (s : List ℕ) → Closes (bytes "WAS." ++ s)
@@ -186,19 +187,19 @@ read-repeats x y n c g e = ap repeatsName e ∙ same-repeat x n c
 
 -- ---- lengths and places
 
-sided-length : (text : List ℕ) (network unit : ℕ) (x : Side) → length (sideText text network unit true true x) ≡ length (text ++ afterName (x .letters)) + (length (volumeText network unit (x .volume)) + (length (priceText true (x .price)) + length (tailText x)))
+sided-length : (text : List ℕ) (network unit : ℕ) (x : Side) → length (sideText text network unit Full true x) ≡ length (text ++ afterName (x .letters)) + (length (volumeText network unit (x .volume)) + (length (priceText Full (x .price)) + length (tailText x)))
 unfolding sideText headText opt
 sided-length text network unit x =
     let q = text ++ afterName (x .letters) in
     let v = volumeText network unit (x .volume) in
-    let p = priceText true (x .price) in
+    let p = priceText Full (x .price) in
     omega (length-append (q ++ v ++ p) (tailText x), length-append (q ++ v) p, length-append q v, arith)
 
-correction-length : (text : List ℕ) (network unit : ℕ) (x y : Side) → length (correctionText text network unit true true x y) ≡ 7 + length (sideText text network unit true true x) + 4 + length (sideText (opt (repeatsName (y .letters)) text) network unit true true y) + length (endPair y)
+correction-length : (text : List ℕ) (network unit : ℕ) (x y : Side) → length (correctionText text network unit Full true x y) ≡ 7 + length (sideText text network unit Full true x) + 4 + length (sideText (opt (repeatsName (y .letters)) text) network unit Full true y) + length (endPair y)
 unfolding correctionText
 correction-length text network unit x y =
-    let a = sideText text network unit true true x in
-    let b = sideText (opt (repeatsName (y .letters)) text) network unit true true y in
+    let a = sideText text network unit Full true x in
+    let b = sideText (opt (repeatsName (y .letters)) text) network unit Full true y in
     omega (length-append (((bytes "<<CORR." ++ a) ++ bytes "WAS.") ++ b) (endPair y), length-append ((bytes "<<CORR." ++ a) ++ bytes "WAS.") b, length-append (bytes "<<CORR." ++ a) (bytes "WAS."), length-append (bytes "<<CORR.") a, arith)
 
 past-side : (tape : List ℕ) (n : ℕ) (v p t r : List ℕ) → drop n tape ≡ v ++ (p ++ (t ++ r)) → drop (n + (length v + (length p + length t))) tape ≡ r
@@ -220,37 +221,37 @@ module _ (network unit : ℕ) (name : List ℕ) (x y : Side) (e : Enterable netw
   head₂ = opt (repeatsName (y .letters)) text ++ afterName (y .letters)
 
   abbrev rest₃ : List ℕ
-  rest₃ = volumeText network unit (y .volume) ++ (priceText true (y .price) ++ (tailText y ++ (endPair y ++ R)))
+  rest₃ = volumeText network unit (y .volume) ++ (priceText Full (y .price) ++ (tailText y ++ (endPair y ++ R)))
 
   abbrev rest₂ : List ℕ
   rest₂ = head₂ ++ rest₃
 
   abbrev rest : List ℕ
-  rest = volumeText network unit (x .volume) ++ (priceText true (x .price) ++ (tailText x ++ (bytes "WAS." ++ rest₂)))
+  rest = volumeText network unit (x .volume) ++ (priceText Full (x .price) ++ (tailText x ++ (bytes "WAS." ++ rest₂)))
 
   abbrev tape : List ℕ
   tape = bytes "<<CORR." ++ (head ++ rest)
 
   abbrev size : ℕ
-  size = length (volumeText network unit (x .volume)) + (length (priceText true (x .price)) + length (tailText x))
+  size = length (volumeText network unit (x .volume)) + (length (priceText Full (x .price)) + length (tailText x))
 
   abbrev size₂ : ℕ
-  size₂ = length (volumeText network unit (y .volume)) + (length (priceText true (y .price)) + length (tailText y))
+  size₂ = length (volumeText network unit (y .volume)) + (length (priceText Full (y .price)) + length (tailText y))
 
-  joined : correctionText text network unit true true x y ++ R ≡ tape
+  joined : correctionText text network unit Full true x y ++ R ≡ tape
   unfolding correctionText sideText headText opt
   joined = simp append-assoc
 
-  total : length (correctionText text network unit true true x y) ≡ 7 + length head + size + 4 + length head₂ + size₂ + length (endPair y)
+  total : length (correctionText text network unit Full true x y) ≡ 7 + length head + size + 4 + length head₂ + size₂ + length (endPair y)
   total = omega (correction-length text network unit x y, sided-length text network unit x, sided-length (opt (repeatsName (y .letters)) text) network unit y, arith)
 
   lower₃ : heads isUpper rest₃ ≡ false
   unfolding opt
-  lower₃ = side-lower network unit (y .volume) true true (y .price) (tailText y ++ (endPair y ++ R)) (some-price (y .price) (i .price-fits))
+  lower₃ = side-lower network unit (y .volume) Full true (y .price) (tailText y ++ (endPair y ++ R)) (some-price (y .price) (i .price-fits))
 
   lower : heads isUpper rest ≡ false
   unfolding opt
-  lower = side-lower network unit (x .volume) true true (x .price) (tailText x ++ (bytes "WAS." ++ rest₂)) (some-price (x .price) (h .price-fits))
+  lower = side-lower network unit (x .volume) Full true (x .price) (tailText x ++ (bytes "WAS." ++ rest₂)) (some-price (x .price) (h .price-fits))
 
   at7 : drop 7 tape ≡ head ++ rest
   at7 = drop-append-seam (bytes "<<CORR.") (head ++ rest)
@@ -259,7 +260,7 @@ module _ (network unit : ℕ) (name : List ℕ) (x y : Side) (e : Enterable netw
   at-side = dropped-all tape head rest 7 at7
 
   at-was : drop (7 + length head + size) tape ≡ bytes "WAS." ++ rest₂
-  at-was = past-side tape (7 + length head) (volumeText network unit (x .volume)) (priceText true (x .price)) (tailText x) (bytes "WAS." ++ rest₂) at-side
+  at-was = past-side tape (7 + length head) (volumeText network unit (x .volume)) (priceText Full (x .price)) (tailText x) (bytes "WAS." ++ rest₂) at-side
 
   at-again : drop (7 + length head + size + 4) tape ≡ rest₂
   at-again = dropped-all tape (bytes "WAS.") rest₂ (7 + length head + size) at-was
@@ -268,7 +269,7 @@ module _ (network unit : ℕ) (name : List ℕ) (x y : Side) (e : Enterable netw
   at-second = dropped-all tape head₂ rest₃ (7 + length head + size + 4) at-again
 
   at-end : drop (7 + length head + size + 4 + length head₂ + size₂) tape ≡ endPair y ++ R
-  at-end = past-side tape (7 + length head + size + 4 + length head₂) (volumeText network unit (y .volume)) (priceText true (y .price)) (tailText y) (endPair y ++ R) at-second
+  at-end = past-side tape (7 + length head + size + 4 + length head₂) (volumeText network unit (y .volume)) (priceText Full (y .price)) (tailText y) (endPair y ++ R) at-second
 
   named : take (length text) (drop 7 tape) ≡ text
   named = ap (take (length text)) (at7 ∙ append-assoc text (afterName (x .letters)) rest) ∙ take-append-seam text (afterName (x .letters) ++ rest)
@@ -349,7 +350,7 @@ module _ (network unit : ℕ) (name : List ℕ) (x y : Side) (e : Enterable netw
   unfolding secondAt secondHead headRead pick
   at-was-is = rw (at-was, starts-append (bytes "WAS.") rest₂, at-again, named, again, at-second) second-is
 
-  whole-is : correctionAt (correctionText text network unit true true x y ++ R) ≡ Correction (record { length = far; from = 7; to = 7 + length text; original = got .taken .side; correcting = got₂ .taken .side })
+  whole-is : correctionAt (correctionText text network unit Full true x y ++ R) ≡ Correction (record { length = far; from = 7; to = 7 + length text; original = got .taken .side; correcting = got₂ .taken .side })
   unfolding correctionAt correctionHead correctionSide headRead
   whole-is =
       ap correctionAt joined
@@ -361,7 +362,7 @@ module _ (network unit : ℕ) (name : List ℕ) (x y : Side) (e : Enterable netw
       ∙ at-was-is
 
   -- THE CORRECTION, WHOLE AT LEAST
-  pub correction-reaches : CorrectionReaches (correctionText text network unit true true x y ++ R) (length (correctionText text network unit true true x y))
+  pub correction-reaches : CorrectionReaches (correctionText text network unit Full true x y ++ R) (length (correctionText text network unit Full true x y))
   correction-reaches = record {
     got = record { length = far; from = 7; to = 7 + length text; original = got .taken .side; correcting = got₂ .taken .side };
     is = whole-is;

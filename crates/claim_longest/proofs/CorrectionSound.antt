@@ -39,6 +39,7 @@ use Rattle.read_name.specs.declared.AgainAnswer.the-variants.{Again}
 use Rattle.claim_names.proofs.Again.{AgainTold, again-told}
 use Rattle.claim_longest.proofs.Shows.{shows-on, on-network-a, on-network-b}
 use Rattle.claim_longest.proofs.Sound.{headed, side-text, on-network, end-told}
+use Rattle.rules.specs.declared.PriceForm.the-variants.{Full}
 
 alike-same : (a b : Bool) → alike a b ≡ true → a ≡ b
 unfolding alike pick
@@ -123,13 +124,13 @@ module _ (s : List ℕ) (opens : starts (bytes "<<CORR.") s ≡ true) (h : NameR
   repeats : repeatsName (y .taken .side .letters) ≡ again .repeated
   repeats = alike-same (repeatsName (y .taken .side .letters)) (leb 1 (g .used)) duly ∙ again .repeats
 
-  first-text : (text : List ℕ) → sideText text network unit true true (x .taken .side) ≡ (text ++ afterName (h .letters)) ++ take (x .taken .used) first-part
+  first-text : (text : List ℕ) → sideText text network unit Full true (x .taken .side) ≡ (text ++ afterName (h .letters)) ++ take (x .taken .used) first-part
   first-text text = side-text Alone (h .letters) (h .a) (h .b) first-part x head₁ told₁ text network unit first-explained
 
-  second-text : (text : List ℕ) → sideText text network unit true true (y .taken .side) ≡ (text ++ afterName (g .letters)) ++ take (y .taken .used) second-part
+  second-text : (text : List ℕ) → sideText text network unit Full true (y .taken .side) ≡ (text ++ afterName (g .letters)) ++ take (y .taken .used) second-part
   second-text text = side-text (With (x .volume)) (g .letters) (x .taken .a) (x .taken .b) second-part y head₂ told₂ text network unit (second .unit-there .second)
 
-  original : take (7 + h .used + x .taken .used) s ≡ bytes "<<CORR." ++ sideText name network unit true true (x .taken .side)
+  original : take (7 + h .used + x .taken .used) s ≡ bytes "<<CORR." ++ sideText name network unit Full true (x .taken .side)
   original =
       two-fronts s (7 + h .used) (x .taken .used)
       ∙ ap (λ z. z ++ take (x .taken .used) first-part) (two-fronts s 7 (h .used) ∙ ap (λ z. z ++ take (h .used) (drop 7 s)) (starts-front (bytes "<<CORR.") s opens) ∙ ap (λ z. bytes "<<CORR." ++ z) (k .text))
@@ -137,13 +138,13 @@ module _ (s : List ℕ) (opens : starts (bytes "<<CORR.") s ≡ true) (h : NameR
       ∙ ap (λ z. bytes "<<CORR." ++ z) (sym (first-text name))
 
   -- the text up to the end pair
-  up-to : take (7 + h .used + x .taken .used + 4 + g .used + y .taken .used) s ≡ bytes "<<CORR." ++ sideText name network unit true true (x .taken .side) ++ bytes "WAS." ++ sideText (opt (again .repeated) name) network unit true true (y .taken .side)
+  up-to : take (7 + h .used + x .taken .used + 4 + g .used + y .taken .used) s ≡ bytes "<<CORR." ++ sideText name network unit Full true (x .taken .side) ++ bytes "WAS." ++ sideText (opt (again .repeated) name) network unit Full true (y .taken .side)
   up-to =
       let n = 7 + h .used + x .taken .used in
       two-fronts s (n + 4 + g .used) (y .taken .used)
       ∙ ap (λ z. z ++ take (y .taken .used) second-part) (two-fronts s (n + 4) (g .used) ∙ ap (λ z. take (n + 4) s ++ z) (again .text) ∙ ap (λ z. z ++ (opt (again .repeated) name ++ afterName (g .letters))) (two-fronts s n 4 ∙ ap (λ z. take n s ++ z) (starts-front (bytes "WAS.") (drop n s) was) ∙ ap (λ z. z ++ bytes "WAS.") original))
-      ∙ append-assoc (bytes "<<CORR." ++ sideText name network unit true true (x .taken .side) ++ bytes "WAS.") (opt (again .repeated) name ++ afterName (g .letters)) (take (y .taken .used) second-part)
-      ∙ ap (λ z. (bytes "<<CORR." ++ sideText name network unit true true (x .taken .side) ++ bytes "WAS.") ++ z) (sym (second-text (opt (again .repeated) name)))
+      ∙ append-assoc (bytes "<<CORR." ++ sideText name network unit Full true (x .taken .side) ++ bytes "WAS.") (opt (again .repeated) name ++ afterName (g .letters)) (take (y .taken .used) second-part)
+      ∙ ap (λ z. (bytes "<<CORR." ++ sideText name network unit Full true (x .taken .side) ++ bytes "WAS.") ++ z) (sym (second-text (opt (again .repeated) name)))
 
   -- the security, both sides and the text of what is read
   pub record CorrectionTold (m : ℕ) : Type 0 where
@@ -154,7 +155,7 @@ module _ (s : List ℕ) (opens : starts (bytes "<<CORR.") s ≡ true) (h : NameR
     pub shows-original : Showable on (x .taken .side)
     pub shows-correcting : Showable on (y .taken .side)
     pub named : nameText false entered-name ≡ take (h .length) (drop 7 s)
-    pub text : correctionText (nameText false entered-name) on trades-in true true (x .taken .side) (y .taken .side) ≡ take m s
+    pub text : correctionText (nameText false entered-name) on trades-in Full true (x .taken .side) (y .taken .side) ≡ take m s
 
   pub correction-told : (m : ℕ) → endAt s (7 + h .used + x .taken .used + 4 + g .used + y .taken .used) (y .taken .side) ≡ m → 1 ≤ m → CorrectionTold m
   unfolding correctionText
@@ -169,8 +170,8 @@ module _ (s : List ℕ) (opens : starts (bytes "<<CORR.") s ≡ true) (h : NameR
         shows-correcting = second .shows;
         named = b .shown;
         text =
-            ap (λ z. bytes "<<CORR." ++ sideText z network unit true true (x .taken .side) ++ bytes "WAS." ++ sideText (opt (repeatsName (y .taken .side .letters)) z) network unit true true (y .taken .side) ++ endPair (y .taken .side)) (b .shown)
-            ∙ ap (λ z. bytes "<<CORR." ++ sideText name network unit true true (x .taken .side) ++ bytes "WAS." ++ sideText (opt z name) network unit true true (y .taken .side) ++ endPair (y .taken .side)) repeats
+            ap (λ z. bytes "<<CORR." ++ sideText z network unit Full true (x .taken .side) ++ bytes "WAS." ++ sideText (opt (repeatsName (y .taken .side .letters)) z) network unit Full true (y .taken .side) ++ endPair (y .taken .side)) (b .shown)
+            ∙ ap (λ z. bytes "<<CORR." ++ sideText name network unit Full true (x .taken .side) ++ bytes "WAS." ++ sideText (opt z name) network unit Full true (y .taken .side) ++ endPair (y .taken .side)) repeats
             ∙ ap (λ z. z ++ endPair (y .taken .side)) (sym up-to)
             ∙ sym (end-told s (7 + h .used + x .taken .used + 4 + g .used + y .taken .used) m (y .taken .side) q o);
       }

@@ -47,6 +47,7 @@ use Rattle.claim_decoder.proofs.Fresh.{fresh-end, fresh-was}
 use Rattle.claim_decoder.proofs.Undone.{unrepeated, after-run, mode-starts, level-starts}
 use Rattle.claim_longest.proofs.Longest.{not-mark, trade-letter}
 use Rattle.claim_longest.proofs.SideBack.{some-price, sound-price, shown-sold, shown-previous}
+use Rattle.rules.specs.declared.PriceForm.the-variants.{Full}
 
 -- ---- a side that a line can have is lawful
 
@@ -105,7 +106,7 @@ partTold : After → SideRead → Part
 partTold a r = inFull (r .price) (conditionsBy a (r .tail)) (sharesOf (r .volume))
 
 module _ (network unit : ℕ) (x : Side) (h : Showable network x) (text : List ℕ) where
-  part-told : partTold (afterOf (x .letters)) (sideShown text network unit true true x) ≡ partIn x
+  part-told : partTold (afterOf (x .letters)) (sideShown text network unit Full true x) ≡ partIn x
   unfolding partTold sideShown pick
   part-told = rw (conditions-by x (lawful network x h), full-price (x .price) ((sound-price (x .price) (h .price-fits)) .decimals), shares-back network unit (x .volume))
 
@@ -145,7 +146,7 @@ told t =
 abbrev told-as : List ℕ → ReadFact → Told
 told-as name fact = record { name = name; fact = fact }
 
-trade-shown : (text : List ℕ) (network unit : ℕ) (x : Side) → Showable network x → told-as text (readTrade ((sideShown text network unit true true x) .price) (conditionsBy (afterOf (x .letters)) ((sideShown text network unit true true x) .tail)) (some (sharesOf ((sideShown text network unit true true x) .volume)))) ≡ told-as text (readTrade (units (x .price)) (conditionsOf x) (some (x .volume)))
+trade-shown : (text : List ℕ) (network unit : ℕ) (x : Side) → Showable network x → told-as text (readTrade ((sideShown text network unit Full true x) .price) (conditionsBy (afterOf (x .letters)) ((sideShown text network unit Full true x) .tail)) (some (sharesOf ((sideShown text network unit Full true x) .volume)))) ≡ told-as text (readTrade (units (x .price)) (conditionsOf x) (some (x .volume)))
 unfolding sideShown pick
 trade-shown text network unit x h = rw (conditions-by x (lawful network x h), full-price (x .price) ((sound-price (x .price) (h .price-fits)) .decimals), shares-back network unit (x .volume))
 
@@ -181,25 +182,25 @@ module _ (network : ℕ) (name : List ℕ) (e : NamePlain network name) where
   after-told b x o = after-by (divide (nameText b name ++ afterName x)) (name-back network name e b x o)
 
   module _ (unit : ℕ) (x : Side) (h : Showable network x) where
-    pub read-side : (b : Bool) (s : List ℕ) → Ends s → readSide (sideText (nameText b name) network unit true true x ++ s) ≡ found (sideShown (nameText b name) network unit true true x) s
-    read-side b s z = side-back (nameText b name) network unit true true x s (side-ok network x h (nameText b name) (name-upper network name e b)) z
+    pub read-side : (b : Bool) (s : List ℕ) → Ends s → readSide (sideText (nameText b name) network unit Full true x ++ s) ≡ found (sideShown (nameText b name) network unit Full true x) s
+    read-side b s z = side-back (nameText b name) network unit Full true x s (side-ok network x h (nameText b name) (name-upper network name e b)) z
 
-    head-name : (b : Bool) → (divide ((sideShown (nameText b name) network unit true true x) .head)) .name ≡ nameText b name
+    head-name : (b : Bool) → (divide ((sideShown (nameText b name) network unit Full true x) .head)) .name ≡ nameText b name
     unfolding sideShown headText
     head-name b = name-told b (x .letters) (shown-sold network x h)
 
-    head-after : (b : Bool) → afterHead ((sideShown (nameText b name) network unit true true x) .head) ≡ afterOf (x .letters)
+    head-after : (b : Bool) → afterHead ((sideShown (nameText b name) network unit Full true x) .head) ≡ afterOf (x .letters)
     unfolding sideShown headText
     head-after b = after-told b (x .letters) (shown-sold network x h)
 
-    trade-told : tradeTold (sideText (nameText true name) network unit true true x) ≡ told-as (nameText true name) (readTrade (units (x .price)) (conditionsOf x) (some (x .volume)))
+    trade-told : tradeTold (sideText (nameText true name) network unit Full true x) ≡ told-as (nameText true name) (readTrade (units (x .price)) (conditionsOf x) (some (x .volume)))
     unfolding tradeTold
     trade-told =
-        let t = sideText (nameText true name) network unit true true x in
-        let r : readSide t ≡ found (sideShown (nameText true name) network unit true true x) [] = ap readSide (sym (append-nil t)) ∙ read-side true [] (fresh-end .ends) in
+        let t = sideText (nameText true name) network unit Full true x in
+        let r : readSide t ≡ found (sideShown (nameText true name) network unit Full true x) [] = ap readSide (sym (append-nil t)) ∙ read-side true [] (fresh-end .ends) in
         rw (r, head-name true, head-after true) (trade-shown (nameText true name) network unit x h)
 
-    cancel-told : (kind : Part → ReadFact) → cancelTold kind (sideText (nameText false name) network unit true true x ++ endPair x) ≡ told-as (nameText false name) (kind (partIn x))
+    cancel-told : (kind : Part → ReadFact) → cancelTold kind (sideText (nameText false name) network unit Full true x ++ endPair x) ≡ told-as (nameText false name) (kind (partIn x))
     unfolding cancelTold
     cancel-told kind = rw (read-side false (endPair x) (pair-ends x), head-name false, head-after false, part-told network unit x h (nameText false name))
 
@@ -208,19 +209,19 @@ module _ (network : ℕ) (name : List ℕ) (e : NamePlain network name) where
       again = opt (repeatsName (y .letters)) (nameText false name)
 
       abbrev second : List ℕ
-      second = sideText again network unit true true y ++ endPair y
+      second = sideText again network unit Full true y ++ endPair y
 
       again-upper : all isUpper again ≡ true
       again-upper = upper-if (repeatsName (y .letters)) (nameText false name) (name-upper network name e false)
 
-      pub read-second : (s : List ℕ) → Ends s → readSide (sideText again network unit true true y ++ s) ≡ found (sideShown again network unit true true y) s
-      read-second s z = side-back again network unit true true y s (side-ok network y i again again-upper) z
+      pub read-second : (s : List ℕ) → Ends s → readSide (sideText again network unit Full true y ++ s) ≡ found (sideShown again network unit Full true y) s
+      read-second s z = side-back again network unit Full true y s (side-ok network y i again again-upper) z
 
-      second-after : afterBy ((sideShown again network unit true true y) .head) ≡ afterOf (y .letters)
+      second-after : afterBy ((sideShown again network unit Full true y) .head) ≡ afterOf (y .letters)
       unfolding sideShown headText
       second-after = again-after network name e (y .letters) (shown-sold network y i) (repeatsName (y .letters)) refl
 
-      correction-told : correctionTold (sideText (nameText false name) network unit true true x ++ (bytes "WAS." ++ second)) ≡ told-as (nameText false name) (readCorrection (partIn x) (partIn y))
+      correction-told : correctionTold (sideText (nameText false name) network unit Full true x ++ (bytes "WAS." ++ second)) ≡ told-as (nameText false name) (readCorrection (partIn x) (partIn y))
       unfolding correctionTold
       correction-told = rw (read-side false (bytes "WAS." ++ second) (fresh-was second), past-append (bytes "WAS.") second, read-second (endPair y) (pair-ends y), head-name false, head-after false, part-told network unit x h (nameText false name), second-after, part-told network unit y i again)
 
@@ -230,24 +231,24 @@ pub parts : (a b c : List ℕ) → a ++ bytes "WAS." ++ b ++ c ≡ a ++ (bytes "
 parts a b c = append-assoc (a ++ bytes "WAS.") b c ∙ append-assoc a (bytes "WAS.") (b ++ c)
 
 module _ (network unit : ℕ) (name : List ℕ) (e : Enterable network unit name) where
-  tells-trade : (x : Side) → Showable network x → told (sideText (nameText true name) network unit true true x) ≡ told-as (nameText true name) (readTrade (units (x .price)) (conditionsOf x) (some (x .volume)))
+  tells-trade : (x : Side) → Showable network x → told (sideText (nameText true name) network unit Full true x) ≡ told-as (nameText true name) (readTrade (units (x .price)) (conditionsOf x) (some (x .volume)))
   unfolding told pick
   tells-trade x h =
-      let t = sideText (nameText true name) network unit true true x in
+      let t = sideText (nameText true name) network unit Full true x in
       let l : heads isLetter t ≡ true = ap (heads isLetter) (sym (append-nil t)) ∙ trade-letter network unit name e x [] in
       rw (not-mark _ t l, not-mark _ t l, not-mark _ t l, not-mark _ t l) (trade-told network name (e .plain) unit x h)
 
-  tells-cancel : (x : Side) → Showable network x → told (cancelText cancelOpening (nameText false name) network unit true true x) ≡ told-as (nameText false name) (readCancel (partIn x))
+  tells-cancel : (x : Side) → Showable network x → told (cancelText cancelOpening (nameText false name) network unit Full true x) ≡ told-as (nameText false name) (readCancel (partIn x))
   unfolding told pick cancelText starts
   tells-cancel x h = cancel-told network name (e .plain) unit x h readCancel
 
-  tells-error : (x : Side) → Showable network x → told (cancelText errorOpening (nameText false name) network unit true true x) ≡ told-as (nameText false name) (readError (partIn x))
+  tells-error : (x : Side) → Showable network x → told (cancelText errorOpening (nameText false name) network unit Full true x) ≡ told-as (nameText false name) (readError (partIn x))
   unfolding told pick cancelText starts
   tells-error x h = cancel-told network name (e .plain) unit x h readError
 
-  tells-correction : (x y : Side) → Showable network x → Showable network y → told (correctionText (nameText false name) network unit true true x y) ≡ told-as (nameText false name) (readCorrection (partIn x) (partIn y))
+  tells-correction : (x y : Side) → Showable network x → Showable network y → told (correctionText (nameText false name) network unit Full true x y) ≡ told-as (nameText false name) (readCorrection (partIn x) (partIn y))
   unfolding told pick correctionText starts
-  tells-correction x y h i = ap correctionTold (parts (sideText (nameText false name) network unit true true x) (sideText (opt (repeatsName (y .letters)) (nameText false name)) network unit true true y) (endPair y)) ∙ correction-told network name (e .plain) unit x h y i
+  tells-correction x y h i = ap correctionTold (parts (sideText (nameText false name) network unit Full true x) (sideText (opt (repeatsName (y .letters)) (nameText false name)) network unit Full true y) (endPair y)) ∙ correction-told network name (e .plain) unit x h y i
 
 tells-announcement : (t : List ℕ) → starts (bytes "<<<") t ≡ true → told t ≡ told-as [] (readAnnouncement t)
 unfolding told pick

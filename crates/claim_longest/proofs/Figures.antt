@@ -16,7 +16,7 @@ use Rattle.text.proofs.Decimal.{decimal-places}
 use Rattle.text.proofs.Texts.{and-left, and-right}
 use Rattle.text.proofs.Parts.{all-append}
 use Rattle.text.proofs.Booleans.{and-both, false-true}
-use Rattle.rules.specs.Price.{wholePart, fraction, wholeText, fractionText, priceText}
+use Rattle.rules.specs.Price.{wholePart, fraction, wholeText, fractionText, dollarsText, priceText}
 use Rattle.rules.specs.Volume.{group, fullVolume}
 use Rattle.rules.specs.Conditions.{sellerText, previousText}
 use Rattle.rules.specs.declared.Price.{Price}
@@ -28,6 +28,7 @@ use Rattle.read_volume.specs.declared.VolumeAnswer.the-variants.{Said, NoVolume
 use Rattle.read_volume.specs.Volume.{volumeAt, saidText}
 use Rattle.read_volume.proofs.Shown.{VolumeFound, volume-found}
 use Rattle.claim_longest.proofs.Tail.{fromAverage, sizeAverage}
+use Rattle.rules.specs.declared.PriceForm.the-variants.{Full}
 
 -- a digit or a figure dot
 pub isFigure : ℕ → Bool
@@ -62,8 +63,8 @@ dotted-figures : (k n : ℕ) → all isFigure (bytes "," ++ places k n) ≡ true
 unfolding all isFigure isDigit
 dotted-figures k n = places-figures k n
 
-price-figures : (p : Price) → all isFigure (priceText true p) ≡ true
-unfolding priceText wholeText fractionText pick
+price-figures : (p : Price) → all isFigure (priceText Full p) ≡ true
+unfolding priceText dollarsText wholeText fractionText pick
 price-figures p = all-append isFigure _ _ (pick-all isFigure (eqb (wholePart p) 0) [] (decimal (wholePart p)) (none-all isFigure) (decimal-figures (wholePart p))) (pick-all isFigure (eqb (fraction p) 0) [] (bytes "," ++ places (p .d) (fraction p)) (none-all isFigure) (dotted-figures (p .d) (fraction p)))
 
 group-figures : (n : ℕ) → all isFigure (group n) ≡ true
@@ -139,12 +140,12 @@ nothing s w f z = omega (ap length (f .text ∙ ap saidText z), length-take (w .
 
 -- a volume that is read at a price: the price is in its figures, and its mark stands behind figures only
 record Overlaps (p : Price) (rest : List ℕ) (w : VolumeRead) : Type 0 where
-  far : length (priceText true p) ≤ w .used
+  far : length (priceText Full p) ≤ w .used
   mark-there : isMark (pastFigures rest) ≡ true
 
-overlaps : (p : Price) (rest : List ℕ) (w : VolumeRead) → volumeAt (priceText true p ++ rest) ≡ Said w → Overlaps p rest w
+overlaps : (p : Price) (rest : List ℕ) (w : VolumeRead) → volumeAt (priceText Full p ++ rest) ≡ Said w → Overlaps p rest w
 overlaps p Z w e =
-    let P = priceText true p in
+    let P = priceText Full p in
     let f = volume-found (P ++ Z) w e in
     let m = marked (w .volume) (nothing (P ++ Z) w f) in
     let rest = drop (w .used) (P ++ Z) in
@@ -154,7 +155,7 @@ overlaps p Z w e =
     record { far = omega (front-ends P Z (m .figures) (m .mark ++ rest) x (price-figures p) (m .ends rest), l, arith); mark-there = ap isMark y ∙ m .marks rest }
 
 -- THE VOLUME GOES BEYOND
-pub volume-beyond : (p : Price) (k b t r : Bool) (d : ℕ) (j g : Bool) (q : Price) (R : List ℕ) (w : VolumeRead) → volumeAt (priceText true p ++ (opt k (bytes ",c") ++ fromAverage b t r d j g q R)) ≡ Said w → length (priceText true p) + (length (opt k (bytes ",c")) + sizeAverage b t r d j g q) ≤ w .used
+pub volume-beyond : (p : Price) (k b t r : Bool) (d : ℕ) (j g : Bool) (q : Price) (R : List ℕ) (w : VolumeRead) → volumeAt (priceText Full p ++ (opt k (bytes ",c") ++ fromAverage b t r d j g q R)) ≡ Said w → length (priceText Full p) + (length (opt k (bytes ",c")) + sizeAverage b t r d j g q) ≤ w .used
 volume-beyond p k b t r d j g q R w e =
     let o = overlaps p (opt k (bytes ",c") ++ fromAverage b t r d j g q R) w e in
     omega (o .far, no-mark k b t r d j g q R (o .mark-there), arith)
@@ -182,10 +183,10 @@ unmarked-tail false false false false d true g q R h = refl
 unmarked-tail false false false false d false true q R h = refl
 unmarked-tail false false false false d false false q R h = h refl
 
-pub no-volume : (p : Price) (rest : List ℕ) → unmarked rest ≡ true → volumeAt (priceText true p ++ rest) ≡ NoVolume
+pub no-volume : (p : Price) (rest : List ℕ) → unmarked rest ≡ true → volumeAt (priceText Full p ++ rest) ≡ NoVolume
 unfolding unmarked
-no-volume p rest h = go (volumeAt (priceText true p ++ rest)) refl
+no-volume p rest h = go (volumeAt (priceText Full p ++ rest)) refl
   where
-    go : (y : VolumeAnswer) → volumeAt (priceText true p ++ rest) ≡ y → y ≡ NoVolume
+    go : (y : VolumeAnswer) → volumeAt (priceText Full p ++ rest) ≡ y → y ≡ NoVolume
     go NoVolume e = refl
     go (Said w) e = absurd (false-true (sym (not-true (isMark (pastFigures rest)) h) ∙ (overlaps p rest w e) .mark-there))

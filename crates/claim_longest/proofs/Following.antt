@@ -39,6 +39,7 @@ use Rattle.claim_decoder.proofs.Undone.{end-of, end-ends, mode-starts, level-st
 use Rattle.claim_longest.proofs.Longest.{not-mark, trade-letter}
 use Rattle.claim_longest.proofs.SideBack.{some-price}
 use Rattle.claim_longest.proofs.Determined.{read-side, read-second, parts}
+use Rattle.rules.specs.declared.PriceForm.the-variants.{Full}
 
 -- ---- where a print ends: what is left of a text behind it
 
@@ -63,41 +64,41 @@ endOf t =
     ((readSide t) .rest))))
 
 module _ (network unit : ℕ) (name : List ℕ) (e : Enterable network unit name) (s : List ℕ) (f : Fresh s) where
-  trade-end : (x : Side) → Showable network x → endOf (sideText (nameText true name) network unit true true x ++ s) ≡ s
+  trade-end : (x : Side) → Showable network x → endOf (sideText (nameText true name) network unit Full true x ++ s) ≡ s
   unfolding endOf pick
   trade-end x h =
-      let t = sideText (nameText true name) network unit true true x ++ s in
+      let t = sideText (nameText true name) network unit Full true x ++ s in
       let l = trade-letter network unit name e x s in
       rw (not-mark _ t l, not-mark _ t l, not-mark _ t l, not-mark _ t l, read-side network name (e .plain) unit x h true s (f .ends))
 
-  side-end : (x : Side) → Showable network x → cancelEnd (sideText (nameText false name) network unit true true x ++ (endPair x ++ s)) ≡ s
+  side-end : (x : Side) → Showable network x → cancelEnd (sideText (nameText false name) network unit Full true x ++ (endPair x ++ s)) ≡ s
   unfolding cancelEnd
-  side-end x h = rw (read-side network name (e .plain) unit x h false (endPair x ++ s) (end-ends x s f)) (end-of (nameText false name) network unit true true x s)
+  side-end x h = rw (read-side network name (e .plain) unit x h false (endPair x ++ s) (end-ends x s f)) (end-of (nameText false name) network unit Full true x s)
 
-  cancel-end : (x : Side) → Showable network x → endOf (cancelText cancelOpening (nameText false name) network unit true true x ++ s) ≡ s
+  cancel-end : (x : Side) → Showable network x → endOf (cancelText cancelOpening (nameText false name) network unit Full true x ++ s) ≡ s
   unfolding endOf pick cancelText starts
-  cancel-end x h = ap cancelEnd (append-assoc (sideText (nameText false name) network unit true true x) (endPair x) s) ∙ side-end x h
+  cancel-end x h = ap cancelEnd (append-assoc (sideText (nameText false name) network unit Full true x) (endPair x) s) ∙ side-end x h
 
-  error-end : (x : Side) → Showable network x → endOf (cancelText errorOpening (nameText false name) network unit true true x ++ s) ≡ s
+  error-end : (x : Side) → Showable network x → endOf (cancelText errorOpening (nameText false name) network unit Full true x ++ s) ≡ s
   unfolding endOf pick cancelText starts
-  error-end x h = ap cancelEnd (append-assoc (sideText (nameText false name) network unit true true x) (endPair x) s) ∙ side-end x h
+  error-end x h = ap cancelEnd (append-assoc (sideText (nameText false name) network unit Full true x) (endPair x) s) ∙ side-end x h
 
   module _ (x : Side) (h : Showable network x) (y : Side) (i : Showable network y) where
     abbrev second : List ℕ
-    second = sideText (opt (repeatsName (y .letters)) (nameText false name)) network unit true true y
+    second = sideText (opt (repeatsName (y .letters)) (nameText false name)) network unit Full true y
 
     second-end : cancelEnd (second ++ (endPair y ++ s)) ≡ s
     unfolding cancelEnd
-    second-end = rw (read-second network name (e .plain) unit x h y i (endPair y ++ s) (end-ends y s f)) (end-of (opt (repeatsName (y .letters)) (nameText false name)) network unit true true y s)
+    second-end = rw (read-second network name (e .plain) unit x h y i (endPair y ++ s) (end-ends y s f)) (end-of (opt (repeatsName (y .letters)) (nameText false name)) network unit Full true y s)
 
-    both-end : correctionEnd (sideText (nameText false name) network unit true true x ++ (bytes "WAS." ++ (second ++ (endPair y ++ s)))) ≡ s
+    both-end : correctionEnd (sideText (nameText false name) network unit Full true x ++ (bytes "WAS." ++ (second ++ (endPair y ++ s)))) ≡ s
     unfolding correctionEnd
     both-end = rw (read-side network name (e .plain) unit x h false (bytes "WAS." ++ (second ++ (endPair y ++ s))) (fresh-was (second ++ (endPair y ++ s))), past-append (bytes "WAS.") (second ++ (endPair y ++ s))) second-end
 
-    correction-end : endOf (correctionText (nameText false name) network unit true true x y ++ s) ≡ s
+    correction-end : endOf (correctionText (nameText false name) network unit Full true x y ++ s) ≡ s
     unfolding endOf pick correctionText starts
     correction-end =
-        let a = sideText (nameText false name) network unit true true x in
+        let a = sideText (nameText false name) network unit Full true x in
         ap correctionEnd (append-assoc (a ++ bytes "WAS." ++ second) (endPair y) s ∙ parts a second (endPair y ++ s)) ∙ both-end
 
 announced-end : (t : List ℕ) (r : Told) (s : List ℕ) → starts (bytes "<<<") (t ++ s) ≡ true → readAnnouncement (t ++ s) ≡ some (found r s) → endOf (t ++ s) ≡ s
@@ -293,7 +294,7 @@ pub print-fresh : {t n : List ℕ} {f : ReadFact} → Printable t n f → (s : L
 unfolding cancelText correctionText
 print-fresh (by-mode m n h) s = mode-fresh m n s
 print-fresh (by-level n h) s = level-fresh n s
-print-fresh (by-trade network unit name x e h) s = side-fresh network name (e .plain) true unit true true x (some-price (x .price) (h .price-fits)) s
+print-fresh (by-trade network unit name x e h) s = side-fresh network name (e .plain) true unit Full true x (some-price (x .price) (h .price-fits)) s
 print-fresh (by-cancel network unit name x e h) s = fresh-pair _
 print-fresh (by-error network unit name x e h) s = fresh-pair _
 print-fresh (by-correction network unit name x y e h i) s = fresh-pair _

@@ -74,6 +74,7 @@ use Rattle.claim_longest.proofs.CorrectionSound.{correction-told}
 use Rattle.claim_longest.proofs.TradeBack.{trade-reaches}
 use Rattle.claim_longest.proofs.CancelBack.{cancel-reaches}
 use Rattle.claim_longest.proofs.CorrectionBack.{correction-reaches}
+use Rattle.rules.specs.declared.PriceForm.the-variants.{Full}
 
 -- ---- what an answer tells
 
@@ -111,7 +112,7 @@ trade-tells s = trade-head-tells s (headAt true s) refl
 
 -- of or-cases opening
 module _ (error : Bool) (opening s : List ℕ) (six : length opening ≡ 6) (opens : starts opening s ≡ true) (kind : Side → ReadFact)
-    (by-kind : (network unit : ℕ) (name : List ℕ) (x : Side) → Enterable network unit name → Showable network x → Printable (cancelText opening (nameText false name) network unit true true x) (nameText false name) (kind x))
+    (by-kind : (network unit : ℕ) (name : List ℕ) (x : Side) → Enterable network unit name → Showable network x → Printable (cancelText opening (nameText false name) network unit Full true x) (nameText false name) (kind x))
     (told : (x : PrintRead) → Printable (take (x .length) s) (take (x .to - x .from) (drop (x .from) s)) (kind (x .side)) → Tells s (amended error x)) where
   cancel-something : (h : NameRead) → HeadTold false (drop 6 s) h → (x : SideRead) → sideAt Alone (h .letters) (h .a) (h .b) (drop (6 + h .used) s) ≡ Sided x → (m : ℕ) → endAt s (6 + h .used + x .taken .used) (x .taken .side) ≡ m → (b : Bool) → eqb m 0 ≡ b → Tells s (pick b (Refused NoPrint) (amended error (record { length = m; from = 6; to = 6 + h .length; side = x .taken .side })))
   unfolding pick
@@ -275,43 +276,43 @@ front-first : (n a v p t r : List ℕ) → ((n ++ a) ++ v ++ p ++ t) ++ r ≡ n 
 front-first n a v p t r = simp append-assoc
 
 module _ (network unit : ℕ) (name : List ℕ) (e : Enterable network unit name) where
-  pub trade-letter : (x : Side) (R : List ℕ) → heads isLetter (sideText (nameText true name) network unit true true x ++ R) ≡ true
+  pub trade-letter : (x : Side) (R : List ℕ) → heads isLetter (sideText (nameText true name) network unit Full true x ++ R) ≡ true
   unfolding sideText headText opt
-  trade-letter x R = ap (heads isLetter) (front-first (nameText true name) (afterName (x .letters)) (volumeText network unit (x .volume)) (priceText true (x .price)) (tailText x) R) ∙ heads-append isLetter (nameText true name) _ (name-head network name (e .plain) true)
+  trade-letter x R = ap (heads isLetter) (front-first (nameText true name) (afterName (x .letters)) (volumeText network unit (x .volume)) (priceText Full (x .price)) (tailText x) R) ∙ heads-append isLetter (nameText true name) _ (name-head network name (e .plain) true)
 
-  cancel-first : (x : Side) (R : List ℕ) → printAt (cancelText cancelOpening (nameText false name) network unit true true x ++ R) ≡ cancelAt (cancelText cancelOpening (nameText false name) network unit true true x ++ R) false
+  cancel-first : (x : Side) (R : List ℕ) → printAt (cancelText cancelOpening (nameText false name) network unit Full true x ++ R) ≡ cancelAt (cancelText cancelOpening (nameText false name) network unit Full true x ++ R) false
   unfolding cancelText starts
-  cancel-first x R = first-cancel (cancelText cancelOpening (nameText false name) network unit true true x ++ R) refl refl refl
+  cancel-first x R = first-cancel (cancelText cancelOpening (nameText false name) network unit Full true x ++ R) refl refl refl
 
-  error-first : (x : Side) (R : List ℕ) → printAt (cancelText errorOpening (nameText false name) network unit true true x ++ R) ≡ cancelAt (cancelText errorOpening (nameText false name) network unit true true x ++ R) true
+  error-first : (x : Side) (R : List ℕ) → printAt (cancelText errorOpening (nameText false name) network unit Full true x ++ R) ≡ cancelAt (cancelText errorOpening (nameText false name) network unit Full true x ++ R) true
   unfolding cancelText starts
-  error-first x R = first-error (cancelText errorOpening (nameText false name) network unit true true x ++ R) refl refl refl refl
+  error-first x R = first-error (cancelText errorOpening (nameText false name) network unit Full true x ++ R) refl refl refl refl
 
-  correction-first : (x y : Side) (R : List ℕ) → printAt (correctionText (nameText false name) network unit true true x y ++ R) ≡ correctionAt (correctionText (nameText false name) network unit true true x y ++ R)
+  correction-first : (x y : Side) (R : List ℕ) → printAt (correctionText (nameText false name) network unit Full true x y ++ R) ≡ correctionAt (correctionText (nameText false name) network unit Full true x y ++ R)
   unfolding correctionText starts
-  correction-first x y R = first-correction (correctionText (nameText false name) network unit true true x y ++ R) refl refl
+  correction-first x y R = first-correction (correctionText (nameText false name) network unit Full true x y ++ R) refl refl
 
-  trade-reached : (x : Side) → Showable network x → (R : List ℕ) → length (sideText (nameText true name) network unit true true x) ≤ lengthOf (printAt (sideText (nameText true name) network unit true true x ++ R))
+  trade-reached : (x : Side) → Showable network x → (R : List ℕ) → length (sideText (nameText true name) network unit Full true x) ≤ lengthOf (printAt (sideText (nameText true name) network unit Full true x ++ R))
   unfolding lengthOf
   trade-reached x h R =
-      let s = sideText (nameText true name) network unit true true x ++ R in
+      let s = sideText (nameText true name) network unit Full true x ++ R in
       let l = trade-letter x R in
       let r = trade-reaches network unit name x e h R in
       rw (first-trade s (not-mark _ s l) (not-mark _ s l) (not-mark _ s l) (not-mark _ s l), r .is) (r .far)
 
-  cancel-reached : (x : Side) → Showable network x → (R : List ℕ) → length (cancelText cancelOpening (nameText false name) network unit true true x) ≤ lengthOf (printAt (cancelText cancelOpening (nameText false name) network unit true true x ++ R))
+  cancel-reached : (x : Side) → Showable network x → (R : List ℕ) → length (cancelText cancelOpening (nameText false name) network unit Full true x) ≤ lengthOf (printAt (cancelText cancelOpening (nameText false name) network unit Full true x ++ R))
   unfolding lengthOf amended
   cancel-reached x h R =
       let r = cancel-reaches false cancelOpening refl network unit name x e h R in
       rw (cancel-first x R, r .is) (r .far)
 
-  error-reached : (x : Side) → Showable network x → (R : List ℕ) → length (cancelText errorOpening (nameText false name) network unit true true x) ≤ lengthOf (printAt (cancelText errorOpening (nameText false name) network unit true true x ++ R))
+  error-reached : (x : Side) → Showable network x → (R : List ℕ) → length (cancelText errorOpening (nameText false name) network unit Full true x) ≤ lengthOf (printAt (cancelText errorOpening (nameText false name) network unit Full true x ++ R))
   unfolding lengthOf amended
   error-reached x h R =
       let r = cancel-reaches true errorOpening refl network unit name x e h R in
       rw (error-first x R, r .is) (r .far)
 
-  correction-reached : (x y : Side) → Showable network x → Showable network y → (R : List ℕ) → length (correctionText (nameText false name) network unit true true x y) ≤ lengthOf (printAt (correctionText (nameText false name) network unit true true x y ++ R))
+  correction-reached : (x y : Side) → Showable network x → Showable network y → (R : List ℕ) → length (correctionText (nameText false name) network unit Full true x y) ≤ lengthOf (printAt (correctionText (nameText false name) network unit Full true x y ++ R))
   unfolding lengthOf
   correction-reached x y h i R =
       let r = correction-reaches network unit name x y e h i R in

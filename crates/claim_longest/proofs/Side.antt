@@ -52,6 +52,7 @@ use Rattle.rules.specs.declared.Refusal.the-variants.{NoPrint}
 use Rattle.text.proofs.Booleans.{false-true, or-cases}
 use Rattle.read_side.specs.declared.SideAnswer.the-variants.{Sided, Refused as Unsided}
 use Rattle.read_side.specs.Side.{headCount, beside, sidedBy, sideWith, saidSide, orElse, sideAt}
+use Rattle.rules.specs.declared.PriceForm.the-variants.{Full}
 
 -- ---- one unit of trading explains
 
@@ -186,7 +187,7 @@ pub record SideTold (first : Beside) (letters : Letters) (a b : Bool) (part : Li
   pub on-a : x .taken .a ≡ true → (a ≡ true) × Unit 65 (beside first (x .volume)) (x .volume)
   pub on-b : x .taken .b ≡ true → (b ≡ true) × Unit 66 (beside first (x .volume)) (x .volume)
   pub one : (x .taken .a || x .taken .b) ≡ true
-  pub text : take (x .taken .used) part ≡ saidText (x .volume) ++ (priceText true (x .taken .side .price) ++ tailText (x .taken .side))
+  pub text : take (x .taken .used) part ≡ saidText (x .volume) ++ (priceText Full (x .taken .side .price) ++ tailText (x .taken .side))
 
 take-none : (n : ℕ) → _≡_ {A = List ℕ} [] (take n [])
 take-none zero = refl
@@ -256,7 +257,7 @@ module _ (first : Beside) (letters : Letters) (a b : Bool) (part : List ℕ) (h 
         on-a = λ z. (and-left a _ (x .a-was z), explaining 65 (beside first v) v (and-right a _ (x .a-was z)));
         on-b = λ z. (and-left b _ (x .b-was z), explaining 66 (beside first v) v (and-right b _ (x .b-was z)));
         one = x .some o;
-        text = whole part (saidText v) (priceText true ((tailAt part st) .side .price)) (tailText ((tailAt part st) .side)) used (p .used) ((tailAt part st) .used) t (q .text ∙ ap (priceText true) (sym (tail-price part st))) (tail-text part st (h .bare) n) r;
+        text = whole part (saidText v) (priceText Full ((tailAt part st) .side .price)) (tailText ((tailAt part st) .side)) used (p .used) ((tailAt part st) .used) t (q .text ∙ ap (priceText Full) (sym (tail-price part st))) (tail-text part st (h .bare) n) r;
       }
 
   told-by : (y : PriceAnswer) → priceAt (drop used part) ≡ y → (yes-a || yes-b) ≡ true → (x : SideRead) → sidedBy part letters v used yes-a yes-b y ≡ Sided x → SideTold first letters a b part x

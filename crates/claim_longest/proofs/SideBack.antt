@@ -54,6 +54,7 @@ use Rattle.claim_compose.specs.Shown.{one}
 use Rattle.claim_longest.proofs.Side.{beginning, sideIn, no-side}
 use Rattle.claim_longest.proofs.Tail.{tail-forward, fromAverage, sizeAverage, May, covers-tail}
 use Rattle.claim_longest.proofs.Figures.{volume-beyond}
+use Rattle.rules.specs.declared.PriceForm.the-variants.{Full}
 
 -- ---- one unit explains and-both
 
@@ -240,28 +241,28 @@ module _ (network : ℕ) (x : Side) (h : Showable network x) where
     }
 
     -- the tail is covered, whatever price was read of it
-    module _ (part R : List ℕ) (k : PriceAgain (priceText true (x .price)) (x .price) (tailText x ++ R)) (at : drop used part ≡ priceText true (x .price) ++ (tailText x ++ R)) where
+    module _ (part R : List ℕ) (k : PriceAgain (priceText Full (x .price)) (x .price) (tailText x ++ R)) (at : drop used part ≡ priceText Full (x .price) ++ (tailText x ++ R)) where
       abbrev st : Taken
       st = beginning L v used a b (k .got)
 
       forward : used + k .got .used ≤ (tailAt part st) .used
       forward = tail-forward part st
 
-      stopped-at : (m : NoMore (tailText x ++ R)) → used + (length (priceText true (x .price)) + length (tailText x)) ≤ (tailAt part st) .used
+      stopped-at : (m : NoMore (tailText x ++ R)) → used + (length (priceText Full (x .price)) + length (tailText x)) ≤ (tailAt part st) .used
       unfolding lettersAfter
       stopped-at m =
           let e = (k .exact m) .0 in
-          let d : drop (used + k .got .used) part ≡ tailText x ++ R = ap (λ n. drop (used + n) part) e ∙ sym (drop-drop (length (priceText true (x .price))) used part) ∙ ap (drop (length (priceText true (x .price)))) at ∙ drop-append-seam (priceText true (x .price)) (tailText x ++ R) in
+          let d : drop (used + k .got .used) part ≡ tailText x ++ R = ap (λ n. drop (used + n) part) e ∙ sym (drop-drop (length (priceText Full (x .price))) used part) ∙ ap (drop (length (priceText Full (x .price)))) at ∙ drop-append-seam (priceText Full (x .price)) (tailText x ++ R) in
           let c = covers-tail part (beginning L v used a b (k .got)) (x .letters .k) (x .letters .b) (x .letters .t) (x .letters .r) (x .days) (x .letters .j) (x .letters .g) (x .previous) R (d ∙ tail-parts x R shown-c) (may (k .got)) (λ z. and-off (x .letters .m) (x .letters .k) apart-mk z) apart-kr in
           omega (c, e, tail-size x shown-c, arith)
 
-      no-tail : length (tailText x) ≡ 0 → used + (length (priceText true (x .price)) + length (tailText x)) ≤ (tailAt part st) .used
+      no-tail : length (tailText x) ≡ 0 → used + (length (priceText Full (x .price)) + length (tailText x)) ≤ (tailAt part st) .used
       no-tail z = omega (z, k .long, forward, arith)
 
-      covered : used + (length (priceText true (x .price)) + length (tailText x)) ≤ (tailAt part st) .used
+      covered : used + (length (priceText Full (x .price)) + length (tailText x)) ≤ (tailAt part st) .used
       covered = go (heads isDigit (tailText x ++ R)) refl (dotDigit (tailText x ++ R)) refl
         where
-          go : (p : Bool) → heads isDigit (tailText x ++ R) ≡ p → (q : Bool) → dotDigit (tailText x ++ R) ≡ q → used + (length (priceText true (x .price)) + length (tailText x)) ≤ (tailAt part st) .used
+          go : (p : Bool) → heads isDigit (tailText x ++ R) ≡ p → (q : Bool) → dotDigit (tailText x ++ R) ≡ q → used + (length (priceText Full (x .price)) + length (tailText x)) ≤ (tailAt part st) .used
           go true e q f = no-tail (tail-size x shown-c ∙ digit-clear (x .days) (x .previous) R (x .letters .k) (x .letters .b) (x .letters .t) (x .letters .r) (x .letters .j) (x .letters .g) (ap (heads isDigit) (sym (tail-parts x R shown-c)) ∙ e))
           go false e true f = no-tail (tail-size x shown-c ∙ dot-clear (x .days) (x .previous) R (x .letters .k) (x .letters .b) (x .letters .t) (x .letters .r) (x .letters .j) (x .letters .g) (ap dotDigit (sym (tail-parts x R shown-c)) ∙ f))
           go false e false f = stopped-at (record { digit = e; dot = f })
@@ -351,7 +352,7 @@ module _ (network unit : ℕ) (x : Side) (h : Showable network x) (u : isUnit un
   price-is = (sound-price (x .price) (h .price-fits), some-price (x .price) (h .price-fits))
 
   -- with the volume v in the first bytes
-  with-reaches : (v : Volume) (used : ℕ) (part R : List ℕ) → explains network unit v ≡ true → drop used part ≡ priceText true (x .price) ++ (tailText x ++ R) → Reaches (sideWith Alone letters a b part v used) (used + (length (priceText true (x .price)) + length (tailText x)))
+  with-reaches : (v : Volume) (used : ℕ) (part R : List ℕ) → explains network unit v ≡ true → drop used part ≡ priceText Full (x .price) ++ (tailText x ++ R) → Reaches (sideWith Alone letters a b part v used) (used + (length (priceText Full (x .price)) + length (tailText x)))
   unfolding sideWith beside sidedBy pick
   with-reaches v used part R e d =
       let k = price-again (x .price) (price-is .0) (price-is .1) (tailText x ++ R) in
@@ -365,36 +366,36 @@ module _ (network unit : ℕ) (x : Side) (h : Showable network x) (u : isUnit un
         far = covered network x h v used y z g part R k d;
       }
 
-  unsaid-with : (part R : List ℕ) → unit ≡ 100 → part ≡ priceText true (x .price) ++ (tailText x ++ R) → Reaches (sideWith Alone letters a b part Unsaid 0) (length (priceText true (x .price)) + length (tailText x))
+  unsaid-with : (part R : List ℕ) → unit ≡ 100 → part ≡ priceText Full (x .price) ++ (tailText x ++ R) → Reaches (sideWith Alone letters a b part Unsaid 0) (length (priceText Full (x .price)) + length (tailText x))
   unfolding explains
   unsaid-with part R n e =
       let r = with-reaches Unsaid 0 part R (ap (λ k. eqb k 100) n) e in
       record { got = r .got; is = r .is; far = omega (r .far, arith) }
 
   -- without a volume, or with one that stands further on
-  unsaid-reaches : (part R : List ℕ) → unit ≡ 100 → part ≡ priceText true (x .price) ++ (tailText x ++ R) → (y : VolumeAnswer) → volumeAt part ≡ y → Reaches (orElse (saidSide Alone letters a b part y) (sideWith Alone letters a b part Unsaid 0)) (length (priceText true (x .price)) + length (tailText x))
+  unsaid-reaches : (part R : List ℕ) → unit ≡ 100 → part ≡ priceText Full (x .price) ++ (tailText x ++ R) → (y : VolumeAnswer) → volumeAt part ≡ y → Reaches (orElse (saidSide Alone letters a b part y) (sideWith Alone letters a b part Unsaid 0)) (length (priceText Full (x .price)) + length (tailText x))
   unfolding saidSide
   unsaid-reaches part R n e NoVolume k = by-none (unsaid-with part R n e)
   unsaid-reaches part R n e (Said v) k =
       by-either (sideWith Alone letters a b part (v .volume) (v .used)) (sideWith Alone letters a b part Unsaid 0) _ (unsaid-with part R n e)
-      (λ y z. omega (volume-beyond (x .price) (x .letters .k) (x .letters .b) (x .letters .t) (x .letters .r) (x .days) (x .letters .j) (x .letters .g) (x .previous) R v (ap volumeAt (sym (e ∙ ap (λ t. priceText true (x .price) ++ t) (tail-parts x R (shown-c network x h)))) ∙ k), tail-size x (shown-c network x h), side-forward Alone letters a b part (v .volume) (v .used) y z, arith))
+      (λ y z. omega (volume-beyond (x .price) (x .letters .k) (x .letters .b) (x .letters .t) (x .letters .r) (x .days) (x .letters .j) (x .letters .g) (x .previous) R v (ap volumeAt (sym (e ∙ ap (λ t. priceText Full (x .price) ++ t) (tail-parts x R (shown-c network x h)))) ∙ k), tail-size x (shown-c network x h), side-forward Alone letters a b part (v .volume) (v .used) y z, arith))
 
-  said-reaches : (R : List ℕ) → VolumeAgain network unit (x .volume) (priceText true (x .price) ++ (tailText x ++ R)) → Reaches (sideAt Alone letters a b (volumeText network unit (x .volume) ++ (priceText true (x .price) ++ (tailText x ++ R)))) (length (volumeText network unit (x .volume)) + (length (priceText true (x .price)) + length (tailText x)))
+  said-reaches : (R : List ℕ) → VolumeAgain network unit (x .volume) (priceText Full (x .price) ++ (tailText x ++ R)) → Reaches (sideAt Alone letters a b (volumeText network unit (x .volume) ++ (priceText Full (x .price) ++ (tailText x ++ R)))) (length (volumeText network unit (x .volume)) + (length (priceText Full (x .price)) + length (tailText x)))
   unfolding sideAt
   said-reaches R k =
       let shown = volumeText network unit (x .volume) in
-      let rest = priceText true (x .price) ++ (tailText x ++ R) in
+      let rest = priceText Full (x .price) ++ (tailText x ++ R) in
       let r = with-reaches (k .got .volume) (k .got .used) (shown ++ rest) R (k .by-unit) (ap (λ n. drop n (shown ++ rest)) (k .exact) ∙ drop-append-seam shown rest) in
-      said-first Alone letters a b (shown ++ rest) (k .got) (k .read) (subst (λ n. Reaches (sideWith Alone letters a b (shown ++ rest) (k .got .volume) (k .got .used)) (n + (length (priceText true (x .price)) + length (tailText x)))) (k .exact) r)
+      said-first Alone letters a b (shown ++ rest) (k .got) (k .read) (subst (λ n. Reaches (sideWith Alone letters a b (shown ++ rest) (k .got .volume) (k .got .used)) (n + (length (priceText Full (x .price)) + length (tailText x)))) (k .exact) r)
 
-  by-volume : (shown : List ℕ) → volumeText network unit (x .volume) ≡ shown → (R : List ℕ) → 1 ≤ x .volume → x .volume < 1000000000 → Reaches (sideAt Alone letters a b (volumeText network unit (x .volume) ++ (priceText true (x .price) ++ (tailText x ++ R)))) (length (volumeText network unit (x .volume)) + (length (priceText true (x .price)) + length (tailText x)))
+  by-volume : (shown : List ℕ) → volumeText network unit (x .volume) ≡ shown → (R : List ℕ) → 1 ≤ x .volume → x .volume < 1000000000 → Reaches (sideAt Alone letters a b (volumeText network unit (x .volume) ++ (priceText Full (x .price) ++ (tailText x ++ R)))) (length (volumeText network unit (x .volume)) + (length (priceText Full (x .price)) + length (tailText x)))
   unfolding sideAt
   by-volume [] e R o l =
-      let part = volumeText network unit (x .volume) ++ (priceText true (x .price) ++ (tailText x ++ R)) in
-      let r = unsaid-reaches part R ((volume-empty network unit (x .volume) e) .0) (ap (λ v. v ++ (priceText true (x .price) ++ (tailText x ++ R))) e) (volumeAt part) refl in
+      let part = volumeText network unit (x .volume) ++ (priceText Full (x .price) ++ (tailText x ++ R)) in
+      let r = unsaid-reaches part R ((volume-empty network unit (x .volume) e) .0) (ap (λ v. v ++ (priceText Full (x .price) ++ (tailText x ++ R))) e) (volumeAt part) refl in
       record { got = r .got; is = r .is; far = omega (r .far, ap length e, arith) }
-  by-volume (c ∷ shown) e R o l = said-reaches R (volume-again network unit (x .volume) w u o l (λ z. some-not-none c shown (sym e ∙ z)) (priceText true (x .price) ++ (tailText x ++ R)))
+  by-volume (c ∷ shown) e R o l = said-reaches R (volume-again network unit (x .volume) w u o l (λ z. some-not-none c shown (sym e ∙ z)) (priceText Full (x .price) ++ (tailText x ++ R)))
 
   -- THE SIDE, WHOLE AT LEAST
-  pub side-reaches : (R : List ℕ) → 1 ≤ x .volume → x .volume < 1000000000 → Reaches (sideAt Alone letters a b (volumeText network unit (x .volume) ++ (priceText true (x .price) ++ (tailText x ++ R)))) (length (volumeText network unit (x .volume)) + (length (priceText true (x .price)) + length (tailText x)))
+  pub side-reaches : (R : List ℕ) → 1 ≤ x .volume → x .volume < 1000000000 → Reaches (sideAt Alone letters a b (volumeText network unit (x .volume) ++ (priceText Full (x .price) ++ (tailText x ++ R)))) (length (volumeText network unit (x .volume)) + (length (priceText Full (x .price)) + length (tailText x)))
   side-reaches R o l = by-volume (volumeText network unit (x .volume)) refl R o l

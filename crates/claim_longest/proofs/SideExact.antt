@@ -42,6 +42,7 @@ use Rattle.claim_longest.proofs.Tail.{fromAverage}
 use Rattle.claim_longest.proofs.Figures.{unmarked, unmarked-tail, no-volume}
 use Rattle.claim_longest.proofs.TailExact.{Ended, Begins, TailEnd, ended, more, tail-ends, lettersBefore}
 use Rattle.claim_longest.proofs.SideBack.{some-not-none, none-one, unit-explains, tail-parts, tail-size, still-with, one-flag, flagOf, some-price, sound-price, shown-n, shown-c, shown-few, apart-mk, apart-mr, apart-kr, apart-jg, rule-network, previous-network, shown-days, shown-previous}
+use Rattle.rules.specs.declared.PriceForm.the-variants.{Full}
 
 -- what stands behind a side that ends: no condition, no digit, no figure dot before one, and no mark behind figures
 pub record Closes (R : List ℕ) : Type 0 where
@@ -117,8 +118,8 @@ module _ (first : Beside) (network unit : ℕ) (x : Side) (h : Showable network 
   }
 
   -- with the volume v in the first bytes
-  with-ends : (v : Volume) (used : ℕ) (part : List ℕ) → explains network unit (beside first v) ≡ true → explains network unit v ≡ true → drop used part ≡ priceText true (x .price) ++ (tailText x ++ R)
-      → SideEnds (sideWith first letters a b part v used) network unit (used + (length (priceText true (x .price)) + length (tailText x))) x R
+  with-ends : (v : Volume) (used : ℕ) (part : List ℕ) → explains network unit (beside first v) ≡ true → explains network unit v ≡ true → drop used part ≡ priceText Full (x .price) ++ (tailText x ++ R)
+      → SideEnds (sideWith first letters a b part v used) network unit (used + (length (priceText Full (x .price)) + length (tailText x))) x R
   unfolding sideWith sidedBy pick
   with-ends v used part c e d =
       let k = price-again (x .price) (sound-price (x .price) (h .price-fits)) (some-price (x .price) (h .price-fits)) (tailText x ++ R) in
@@ -127,7 +128,7 @@ module _ (first : Beside) (network unit : ℕ) (x : Side) (h : Showable network 
       let n = b && explained 66 (beside first v) v in
       let g : flagOf network y n ≡ true = still-with first network a b v w f (unit-explains network unit (beside first v) v u c e) in
       let o : (y || n) ≡ true = one-flag network y n g in
-      let q : drop (used + k .got .used) part ≡ tailText x ++ R = ap (λ i. drop (used + i) part) (m .0) ∙ sym (drop-drop (length (priceText true (x .price))) used part) ∙ ap (drop (length (priceText true (x .price)))) d ∙ drop-append-seam (priceText true (x .price)) (tailText x ++ R) in
+      let q : drop (used + k .got .used) part ≡ tailText x ++ R = ap (λ i. drop (used + i) part) (m .0) ∙ sym (drop-drop (length (priceText Full (x .price))) used part) ∙ ap (drop (length (priceText Full (x .price)))) d ∙ drop-append-seam (priceText Full (x .price)) (tailText x ++ R) in
       let t = tail-ends part (beginning letters v used y n (k .got)) (used + k .got .used) (headCount letters) letters y n (x .letters .k) (x .letters .b) (x .letters .t) (x .letters .r) (x .days) (x .letters .j) (x .letters .g) (x .previous) R (begins v used part y n (k .got) g q) (λ i. (z i) .ends) in
       record {
         got = record { volume = v; taken = tailAt part (beginning letters v used y n (k .got)) };
@@ -144,24 +145,24 @@ module _ (first : Beside) (network unit : ℕ) (x : Side) (h : Showable network 
 
   -- the volume beside it, whichever stands here
   by-shown : (shown : List ℕ) → volumeText network unit (x .volume) ≡ shown → 1 ≤ x .volume → x .volume < 1000000000 → ((v : Volume) → explains network unit v ≡ true → explains network unit (beside first v) ≡ true)
-      → SideEnds (sideAt first letters a b (volumeText network unit (x .volume) ++ (priceText true (x .price) ++ (tailText x ++ R)))) network unit (length (volumeText network unit (x .volume)) + (length (priceText true (x .price)) + length (tailText x))) x R
+      → SideEnds (sideAt first letters a b (volumeText network unit (x .volume) ++ (priceText Full (x .price) ++ (tailText x ++ R)))) network unit (length (volumeText network unit (x .volume)) + (length (priceText Full (x .price)) + length (tailText x))) x R
   unfolding sideAt saidSide orElse explains
   by-shown [] e o l c =
-      let part = volumeText network unit (x .volume) ++ (priceText true (x .price) ++ (tailText x ++ R)) in
+      let part = volumeText network unit (x .volume) ++ (priceText Full (x .price) ++ (tailText x ++ R)) in
       let n = (volume-empty network unit (x .volume) e) .0 in
       let i : explains network unit Unsaid ≡ true = ap (λ k. eqb k 100) n in
-      let q : part ≡ priceText true (x .price) ++ (tailText x ++ R) = ap (λ v. v ++ (priceText true (x .price) ++ (tailText x ++ R))) e in
+      let q : part ≡ priceText Full (x .price) ++ (tailText x ++ R) = ap (λ v. v ++ (priceText Full (x .price) ++ (tailText x ++ R))) e in
       let r = with-ends Unsaid 0 part (c Unsaid i) i q in
       let v : volumeAt part ≡ NoVolume = ap volumeAt q ∙ no-volume (x .price) (tailText x ++ R) unmarked-rest in
-      record { got = r .got; is = rw v (r .is); by-unit = r .by-unit; flags = r .flags; others = r .others; on = r .on; tail = subst (λ k. TailEnd (r .got .taken) (k + (length (priceText true (x .price)) + length (tailText x))) (lettersBefore letters (x .letters .k) (x .letters .b) (x .letters .t) (x .letters .r) (x .letters .j)) (r .flags) (pick (x .letters .j) false (r .others)) (x .letters .g) R) (sym (ap length e)) (r .tail) }
+      record { got = r .got; is = rw v (r .is); by-unit = r .by-unit; flags = r .flags; others = r .others; on = r .on; tail = subst (λ k. TailEnd (r .got .taken) (k + (length (priceText Full (x .price)) + length (tailText x))) (lettersBefore letters (x .letters .k) (x .letters .b) (x .letters .t) (x .letters .r) (x .letters .j)) (r .flags) (pick (x .letters .j) false (r .others)) (x .letters .g) R) (sym (ap length e)) (r .tail) }
   by-shown (s ∷ shown) e o l c =
       let v = volumeText network unit (x .volume) in
-      let rest = priceText true (x .price) ++ (tailText x ++ R) in
+      let rest = priceText Full (x .price) ++ (tailText x ++ R) in
       let k = volume-again network unit (x .volume) w u o l (λ i. some-not-none s shown (sym e ∙ i)) rest in
       let r = with-ends (k .got .volume) (k .got .used) (v ++ rest) (c (k .got .volume) (k .by-unit)) (k .by-unit) (ap (λ n. drop n (v ++ rest)) (k .exact) ∙ drop-append-seam v rest) in
-      record { got = r .got; is = rw (k .read, r .is); by-unit = r .by-unit; flags = r .flags; others = r .others; on = r .on; tail = subst (λ n. TailEnd (r .got .taken) (n + (length (priceText true (x .price)) + length (tailText x))) (lettersBefore letters (x .letters .k) (x .letters .b) (x .letters .t) (x .letters .r) (x .letters .j)) (r .flags) (pick (x .letters .j) false (r .others)) (x .letters .g) R) (k .exact) (r .tail) }
+      record { got = r .got; is = rw (k .read, r .is); by-unit = r .by-unit; flags = r .flags; others = r .others; on = r .on; tail = subst (λ n. TailEnd (r .got .taken) (n + (length (priceText Full (x .price)) + length (tailText x))) (lettersBefore letters (x .letters .k) (x .letters .b) (x .letters .t) (x .letters .r) (x .letters .j)) (r .flags) (pick (x .letters .j) false (r .others)) (x .letters .g) R) (k .exact) (r .tail) }
 
   -- THE SIDE, EXACTLY OR WITH A PREVIOUS LAST MORE
   pub side-ends : 1 ≤ x .volume → x .volume < 1000000000 → ((v : Volume) → explains network unit v ≡ true → explains network unit (beside first v) ≡ true)
-      → SideEnds (sideAt first letters a b (volumeText network unit (x .volume) ++ (priceText true (x .price) ++ (tailText x ++ R)))) network unit (length (volumeText network unit (x .volume)) + (length (priceText true (x .price)) + length (tailText x))) x R
+      → SideEnds (sideAt first letters a b (volumeText network unit (x .volume) ++ (priceText Full (x .price) ++ (tailText x ++ R)))) network unit (length (volumeText network unit (x .volume)) + (length (priceText Full (x .price)) + length (tailText x))) x R
   side-ends o l c = by-shown (volumeText network unit (x .volume)) refl o l c

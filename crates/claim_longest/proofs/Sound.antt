@@ -46,6 +46,7 @@ use Rattle.reader.specs.Read.{endAt}
 use Rattle.claim_normal.proofs.Views.{printable-as}
 use Rattle.claim_longest.proofs.Side.{Headed, SideTold, side-told, two-fronts}
 use Rattle.claim_longest.proofs.Shows.{explains-side}
+use Rattle.rules.specs.declared.PriceForm.the-variants.{Full}
 
 -- ---- heads
 
@@ -65,17 +66,17 @@ after-same x y o s l m n k = rw (o, s, l, m, n, k)
 -- ---- a side's text is what stands behind its head
 
 module _ (first : Beside) (letters : Letters) (a b : Bool) (part : List ℕ) (x : SideRead) (h : Headed letters) (t : SideTold first letters a b part x) where
-  pub side-text : (text : List ℕ) (network unit : ℕ) → explains network unit (x .volume) ≡ true → sideText text network unit true true (x .taken .side) ≡ (text ++ afterName letters) ++ take (x .taken .used) part
+  pub side-text : (text : List ℕ) (network unit : ℕ) → explains network unit (x .volume) ≡ true → sideText text network unit Full true (x .taken .side) ≡ (text ++ afterName letters) ++ take (x .taken .used) part
   unfolding sideText headText opt
   side-text text network unit e =
       let y = x .taken .side in
       let f : afterName (y .letters) ≡ afterName letters = after-same (y .letters) letters (t .o-kept) (t .s-kept) (t .l-kept) (t .m-kept) (t .no-n) (h .no-n) in
       let v : volumeText network unit (y .volume) ≡ saidText (x .volume) = ap (volumeText network unit) (t .shares) ∙ explained-text network unit (x .volume) e in
       let q = text ++ afterName letters in
-      ap (λ z. (((text ++ z) ++ volumeText network unit (y .volume)) ++ priceText true (y .price)) ++ tailText y) f
-      ∙ ap (λ z. ((q ++ z) ++ priceText true (y .price)) ++ tailText y) v
-      ∙ append-assoc (q ++ saidText (x .volume)) (priceText true (y .price)) (tailText y)
-      ∙ append-assoc q (saidText (x .volume)) (priceText true (y .price) ++ tailText y)
+      ap (λ z. (((text ++ z) ++ volumeText network unit (y .volume)) ++ priceText Full (y .price)) ++ tailText y) f
+      ∙ ap (λ z. ((q ++ z) ++ priceText Full (y .price)) ++ tailText y) v
+      ∙ append-assoc (q ++ saidText (x .volume)) (priceText Full (y .price)) (tailText y)
+      ∙ append-assoc q (saidText (x .volume)) (priceText Full (y .price) ++ tailText y)
       ∙ ap (λ z. q ++ z) (sym (t .text))
 
 picked-a : (network : ℕ) → eqb network 65 ≡ true → (a b : Bool) → pick (eqb network 65) a b ≡ true → a ≡ true
@@ -106,7 +107,7 @@ module _ (s : List ℕ) (h : NameRead) (k : HeadTold true s h) (x : SideRead) (e
       let u = w .unit-there in
       printable-as
       (by-trade (w .network) (u .unit) (b .name) (x .taken .side) (record { on = w .is-network; trades-in = u .lawful; plain = b .plain; sized = b .sized; printable = b .printable }) (w .shows))
-      (ap (λ z. sideText z (w .network) (u .unit) true true (x .taken .side)) (b .shown)
+      (ap (λ z. sideText z (w .network) (u .unit) Full true (x .taken .side)) (b .shown)
       ∙ side-text Alone (h .letters) (h .a) (h .b) (drop (h .used) s) x d t (take (h .length) s) (w .network) (u .unit) (u .second)
       ∙ ap (λ z. z ++ take (x .taken .used) (drop (h .used) s)) (sym (k .text))
       ∙ sym (two-fronts s (h .used) (x .taken .used)))
@@ -141,7 +142,7 @@ module _ (opening s : List ℕ) (six : length opening ≡ 6) (starts-there : sta
     pub enters : Enterable network unit name
     pub shows : Showable network (x .taken .side)
     pub named : nameText false name ≡ take (h .length) (drop 6 s)
-    pub text : cancelText opening (nameText false name) network unit true true (x .taken .side) ≡ take m s
+    pub text : cancelText opening (nameText false name) network unit Full true (x .taken .side) ≡ take m s
 
   pub cancel-told : (m : ℕ) → endAt s (6 + h .used + x .taken .used) (x .taken .side) ≡ m → 1 ≤ m → CancelTold m
   unfolding cancelText
@@ -159,7 +160,7 @@ module _ (opening s : List ℕ) (six : length opening ≡ 6) (starts-there : sta
         shows = w .shows;
         named = b .shown;
         text =
-            ap (λ z. (opening ++ sideText z (w .network) (u .unit) true true (x .taken .side)) ++ endPair (x .taken .side)) (b .shown)
+            ap (λ z. (opening ++ sideText z (w .network) (u .unit) Full true (x .taken .side)) ++ endPair (x .taken .side)) (b .shown)
             ∙ ap (λ z. (opening ++ z) ++ endPair (x .taken .side)) (side-text Alone (h .letters) (h .a) (h .b) (drop (6 + h .used) s) x d t (take (h .length) (drop 6 s)) (w .network) (u .unit) (u .second))
             ∙ ap (λ z. z ++ endPair (x .taken .side)) (sym front-of)
             ∙ sym (end-told s (6 + h .used + x .taken .used) m (x .taken .side) f o);

@@ -33,6 +33,7 @@ use Rattle.read_price.specs.Price.{priceAt}
 use Rattle.read_price.proofs.PriceBack.{onto-stop, onto-places, decimal-below, decimal-first, price-again}
 use Rattle.read_conditions.specs.declared.Taken.{Taken}
 use Rattle.read_conditions.specs.Tail.{plusCash, plusAverage, plusStopped, plusSeller, plusRule, sideWith, further, takesCash, cashAt, takesAverage, averageAt, takesStopped, stoppedAt, sellerDays, sellerBy, sellerAt, takesRule, ruleAt, closedBy, previousIn, previousBy, previousAt, afterPriceAt, atEndAt, tailAt}
+use Rattle.rules.specs.declared.PriceForm.the-variants.{Full}
 
 -- ---- what is left of a tail, from each condition on, before the rest R
 
@@ -344,7 +345,7 @@ pub record PreviousAgain (q : Price) (R : List ℕ) : Type 0 where
 pub previous-again : (q : Price) (R : List ℕ) → Sound q → 1 ≤ q .n → PreviousAgain q R
 unfolding previousIn previousText closedBy starts pick
 previous-again q R h o =
-    let t = priceText true q in
+    let t = priceText Full q in
     let a = price-again q h o (bytes ">>" ++ R) in
     let x = a .exact (pair-ends R) in
     let e : ((bytes ">>PREV.LAST" ++ t) ++ bytes ">>") ++ R ≡ bytes ">>PREV.LAST" ++ (t ++ (bytes ">>" ++ R)) = append-assoc (bytes ">>PREV.LAST" ++ t) (bytes ">>") R in

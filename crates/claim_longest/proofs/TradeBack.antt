@@ -39,6 +39,7 @@ use Rattle.reader.specs.declared.ReadAnswer.{ReadAnswer}
 use Rattle.reader.specs.declared.ReadAnswer.the-variants.{Trade, Refused}
 use Rattle.reader.specs.Read.{tradeSide, tradeHead, tradeAt}
 use Rattle.claim_longest.proofs.SideBack.{some-price, flagOf, shown-n, shown-sold, Reaches, side-reaches}
+use Rattle.rules.specs.declared.PriceForm.the-variants.{Full}
 
 -- the network of the name is one that the head allows
 pub flag-there : (temporary : Bool) (network : ℕ) (text : List ℕ) → isNetwork network ≡ true → nameOn temporary network text ≡ true → flagOf network (nameOn temporary 65 text) (nameOn temporary 66 text) ≡ true
@@ -69,25 +70,25 @@ module _ (network unit : ℕ) (name : List ℕ) (x : Side) (e : Enterable networ
   head = nameText true name ++ afterName (x .letters)
 
   abbrev rest : List ℕ
-  rest = volumeText network unit (x .volume) ++ (priceText true (x .price) ++ (tailText x ++ R))
+  rest = volumeText network unit (x .volume) ++ (priceText Full (x .price) ++ (tailText x ++ R))
 
-  joined : sideText (nameText true name) network unit true true x ++ R ≡ head ++ rest
+  joined : sideText (nameText true name) network unit Full true x ++ R ≡ head ++ rest
   unfolding sideText headText opt
   joined = simp append-assoc
 
-  size : length (sideText (nameText true name) network unit true true x) ≡ length head + (length (volumeText network unit (x .volume)) + (length (priceText true (x .price)) + length (tailText x)))
+  size : length (sideText (nameText true name) network unit Full true x) ≡ length head + (length (volumeText network unit (x .volume)) + (length (priceText Full (x .price)) + length (tailText x)))
   unfolding sideText headText opt
-  size = omega (length-append (head ++ volumeText network unit (x .volume) ++ priceText true (x .price)) (tailText x), length-append (head ++ volumeText network unit (x .volume)) (priceText true (x .price)), length-append head (volumeText network unit (x .volume)), arith)
+  size = omega (length-append (head ++ volumeText network unit (x .volume) ++ priceText Full (x .price)) (tailText x), length-append (head ++ volumeText network unit (x .volume)) (priceText Full (x .price)), length-append head (volumeText network unit (x .volume)), arith)
 
   lower : heads isUpper rest ≡ false
   unfolding opt
-  lower = side-lower network unit (x .volume) true true (x .price) (tailText x ++ R) (some-price (x .price) (h .price-fits))
+  lower = side-lower network unit (x .volume) Full true (x .price) (tailText x ++ R) (some-price (x .price) (h .price-fits))
 
   headed : headAt true (head ++ rest) ≡ Named (headRead true (nameText true name) (x .letters))
   headed = head-found true network name (e .on) (e .plain) (x .letters) (shown-n network x h) (shown-sold network x h) rest lower
 
   -- THE TRADE, WHOLE AT LEAST
-  pub trade-reaches : TradeReaches (sideText (nameText true name) network unit true true x ++ R) (length (sideText (nameText true name) network unit true true x))
+  pub trade-reaches : TradeReaches (sideText (nameText true name) network unit Full true x ++ R) (length (sideText (nameText true name) network unit Full true x))
   unfolding tradeAt tradeHead tradeSide headRead
   trade-reaches =
       let a = nameOn true 65 (nameText true name) in

@@ -30,6 +30,7 @@ use Rattle.claim_widths.proofs.Below.{number-below}
 use Rattle.claim_compose.proofs.Below.{volume-below}
 use Rattle.claim_normal.specs.Shown.{shownSide}
 use Rattle.claim_normal.proofs.Count.{four}
+use Rattle.rules.specs.declared.PriceForm.the-variants.{Full}
 
 -- ---- letters
 
@@ -121,7 +122,7 @@ pub same-conditions : (x : Side) → conditionsOf (shownSide x) ≡ conditionsOf
 unfolding conditionsOf shownSide shownLetters
 same-conditions x = refl
 
-pub same-side : (name : List ℕ) (network unit : ℕ) (x : Side) → sideText name network unit true true (shownSide x) ≡ sideText name network unit true true x
+pub same-side : (name : List ℕ) (network unit : ℕ) (x : Side) → sideText name network unit Full true (shownSide x) ≡ sideText name network unit Full true x
 unfolding sideText headText tailText afterName afterPrice atEnd shownSide shownLetters
 same-side name network unit x = refl
 
@@ -146,11 +147,11 @@ same-repeats : (y : Side) → repeatsName ((shownSide y) .letters) ≡ repeatsNa
 unfolding shownSide
 same-repeats y = same-repeat (y .letters)
 
-pub same-cancel : (opening name : List ℕ) (network unit : ℕ) (x : Side) → cancelText opening name network unit true true (shownSide x) ≡ cancelText opening name network unit true true x
+pub same-cancel : (opening name : List ℕ) (network unit : ℕ) (x : Side) → cancelText opening name network unit Full true (shownSide x) ≡ cancelText opening name network unit Full true x
 unfolding cancelText
 same-cancel opening name network unit x = rw (same-side name network unit x, same-end x)
 
-pub same-correction : (name : List ℕ) (network unit : ℕ) (x y : Side) → correctionText name network unit true true (shownSide x) (shownSide y) ≡ correctionText name network unit true true x y
+pub same-correction : (name : List ℕ) (network unit : ℕ) (x y : Side) → correctionText name network unit Full true (shownSide x) (shownSide y) ≡ correctionText name network unit Full true x y
 unfolding correctionText
 same-correction name network unit x y =
-    rw (same-side name network unit x, ap (λ b. sideText (opt b name) network unit true true (shownSide y)) (same-repeats y), same-side (opt (repeatsName (y .letters)) name) network unit y, same-end y)
+    rw (same-side name network unit x, ap (λ b. sideText (opt b name) network unit Full true (shownSide y)) (same-repeats y), same-side (opt (repeatsName (y .letters)) name) network unit y, same-end y)

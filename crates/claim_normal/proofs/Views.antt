@@ -11,15 +11,15 @@ use Rattle.text.specs.Pick.{pick, opt, all}
 use Rattle.text.proofs.Texts.{and-left, and-right}
 use Rattle.rules.specs.Columns.{columns, column, numberIn, valueOf, between}
 use Rattle.rules.specs.Names.{nameText}
-use Rattle.rules.specs.Price.{units}
+use Rattle.rules.specs.Price.{units, formBy}
 use Rattle.rules.specs.Conditions.{lawfulLetters, onNetwork}
 use Rattle.rules.specs.Side.{sideText}
 use Rattle.rules.specs.Announcement.{modeText, levelText, stepText}
-use Rattle.rules.specs.Correction.{cancelText, correctionText, cancelOpening, errorOpening, cancelFull, cancelShows, printsCorrection, correctionFull, correctionShows}
+use Rattle.rules.specs.Correction.{cancelText, correctionText, cancelOpening, errorOpening, cancelFull, cancelForm, cancelShows, printsCorrection, correctionFull, correctionForm, correctionShows}
 use Rattle.rules.specs.Line.{isShaped, isKind, isSecurityNumber, isFormed, isRanged, lineOf, ofKind, nameColumns, firstSide, secondSide, lettersField, sideRanged, sideOf, sideMatched, listingFormed, listingRanged, listingOf, levelRanged, stepRanged, tradeRanged, tradeOf, correctionRanged, correctionOf}
 use Rattle.rules.specs.Refusal.{refuse}
 use Rattle.rules.specs.Day.{Day, isEntered, securityAt, nameAt, tradeRefusal, correctionRefusal, stateRefusal, undated, refusalOf, printOf, tradePrint, cancelPrint, correctionPrint, showsTemporary}
-use Rattle.rules.specs.Trade.{printsTrade, tradeFull, tradeShows, isNormal}
+use Rattle.rules.specs.Trade.{printsTrade, tradeFull, tradeForm, tradeShows, isNormal}
 use Rattle.rules.specs.Shown.{Fact, announced, corrected, conditionsOf, partOf, factOf, tradeFact, shownVolume, announcedIf}
 use Rattle.rules.specs.NormalPrint.{ReadFact, readAnnouncement, readTrade, readCancel, readError, readCorrection, readFact, nameOf}
 use Rattle.rules.specs.declared.Mode.{Mode}
@@ -44,6 +44,7 @@ use Rattle.claim_normal.specs.Shown.{shownSide}
 use Rattle.claim_normal.specs.Invariant.{Invariant}
 use Rattle.claim_normal.proofs.Unsuffixed.{printedName, printed-text, printed-enterable}
 use Rattle.claim_normal.proofs.Sides.{showable-side, same-conditions, same-side, same-cancel, same-correction}
+use Rattle.rules.specs.declared.PriceForm.the-variants.{Full}
 
 -- ---- nothing stopped it
 
@@ -137,17 +138,17 @@ module _ (day : Day) (held : Invariant day) (normal : day .settings .mode ≡ No
   unfolding printsTrade
   prints-trade s market x = rw normal
 
-  trade-full : (s : Security) (market : ℕ) (x : Side) → tradeFull (day .settings) s market x ≡ true
-  unfolding tradeFull
-  trade-full s market x = rw is-normal
+  trade-form : (s : Security) (market : ℕ) (x : Side) → tradeForm (day .settings) s market x ≡ Full
+  unfolding tradeForm tradeFull formBy pick
+  trade-form s market x = rw is-normal
 
   trade-shows : (s : Security) (market : ℕ) (x : Side) → tradeShows (day .settings) s market x ≡ true
   unfolding tradeShows
   trade-shows s market x = rw is-normal
 
-  cancel-full : (s : Security) (x : Side) → cancelFull (day .settings) s x ≡ true
-  unfolding cancelFull
-  cancel-full s x = rw is-normal
+  cancel-form : (s : Security) (x : Side) → cancelForm (day .settings) s x ≡ Full
+  unfolding cancelForm cancelFull formBy pick
+  cancel-form s x = rw is-normal
 
   cancel-shows : (x : Side) → cancelShows (day .settings) x ≡ true
   unfolding cancelShows
@@ -157,9 +158,9 @@ module _ (day : Day) (held : Invariant day) (normal : day .settings .mode ≡ No
   unfolding printsCorrection
   prints-correction s x y = rw normal
 
-  correction-full : (s : Security) (x y : Side) → correctionFull (day .settings) s x y ≡ true
-  unfolding correctionFull
-  correction-full s x y = rw is-normal
+  correction-form : (s : Security) (x y : Side) → correctionForm (day .settings) s x y ≡ Full
+  unfolding correctionForm correctionFull formBy pick
+  correction-form s x y = rw is-normal
 
   correction-shows : (x y : Side) → correctionShows (day .settings) x y ≡ true
   unfolding correctionShows
@@ -169,9 +170,9 @@ module _ (day : Day) (held : Invariant day) (normal : day .settings .mode ≡ No
     abbrev s : Security
     s = securityAt day (t .security)
 
-    trade-text : printOf day (Traded t) ≡ sideText (nameText (showsTemporary s) (nameAt day (t .security))) (s .issue .network) (s .issue .unit) true true (t .side)
+    trade-text : printOf day (Traded t) ≡ sideText (nameText (showsTemporary s) (nameAt day (t .security))) (s .issue .network) (s .issue .unit) Full true (t .side)
     unfolding printOf tradePrint opt
-    trade-text = rw (prints-trade, trade-full, trade-shows)
+    trade-text = rw (prints-trade, trade-form, trade-shows)
 
     trade-name : nameOf day (Traded t) ≡ nameText (showsTemporary s) (nameAt day (t .security))
     unfolding nameOf
@@ -185,9 +186,9 @@ module _ (day : Day) (held : Invariant day) (normal : day .settings .mode ≡ No
     unfolding tradeFact readFact shownVolume pick
     trade-told = rw is-normal
 
-    cancel-text : (opening : List ℕ) → cancelPrint opening day t ≡ cancelText opening (nameText false (nameAt day (t .security))) (s .issue .network) (s .issue .unit) true true (t .side)
+    cancel-text : (opening : List ℕ) → cancelPrint opening day t ≡ cancelText opening (nameText false (nameAt day (t .security))) (s .issue .network) (s .issue .unit) Full true (t .side)
     unfolding cancelPrint
-    cancel-text opening = rw (cancel-full, cancel-shows)
+    cancel-text opening = rw (cancel-form, cancel-shows)
 
   part-told : (x : Side) → partOf (isNormal (day .settings .mode)) x ≡ partIn x
   unfolding partOf pick
@@ -197,9 +198,9 @@ module _ (day : Day) (held : Invariant day) (normal : day .settings .mode ≡ No
     abbrev z : Security
     z = securityAt day (c .security)
 
-    correction-text : printOf day (Corrected c) ≡ correctionText (nameText false (nameAt day (c .security))) (z .issue .network) (z .issue .unit) true true (c .original) (c .correcting)
+    correction-text : printOf day (Corrected c) ≡ correctionText (nameText false (nameAt day (c .security))) (z .issue .network) (z .issue .unit) Full true (c .original) (c .correcting)
     unfolding printOf correctionPrint opt
-    correction-text = rw (prints-correction, correction-full, correction-shows)
+    correction-text = rw (prints-correction, correction-form, correction-shows)
 
     correction-name : nameOf day (Corrected c) ≡ nameText false (nameAt day (c .security))
     unfolding nameOf
@@ -292,7 +293,7 @@ module _ (day : Day) (held : Invariant day) (normal : day .settings .mode ≡ No
         let n = nameAt day (t .security) in
         let z = printed-text b n (o .is-there .sized) in
         printable-as (by-trade (y .issue .network) (y .issue .unit) (printedName b n) (shownSide (t .side)) (printed-enterable b n (o .is-there)) (o .shows))
-        (ap (λ m. sideText m (y .issue .network) (y .issue .unit) true true (shownSide (t .side))) z ∙ same-side (nameText b n) (y .issue .network) (y .issue .unit) (t .side) ∙ sym (trade-text t) ∙ p)
+        (ap (λ m. sideText m (y .issue .network) (y .issue .unit) Full true (shownSide (t .side))) z ∙ same-side (nameText b n) (y .issue .network) (y .issue .unit) (t .side) ∙ sym (trade-text t) ∙ p)
         (z ∙ sym (trade-name t) ∙ q)
         (same-trade (t .side) ∙ sym (trade-told t) ∙ ap readFact (some-same (sym (trade-fact t) ∙ f)) ∙ told)
 

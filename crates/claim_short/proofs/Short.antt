@@ -23,6 +23,7 @@ use Rattle.claim_compose.proofs.Sides.{below-power, few-decimals, volume-small,
 use Rattle.claim_normal.proofs.Normal.{normal-printable}
 use Rattle.claim_longest.proofs.CancelBack.{pair-short}
 use Rattle.claim_longest.proofs.Longest.{in-range}
+use Rattle.rules.specs.declared.PriceForm.the-variants.{Full}
 
 module _ (network : ℕ) (x : Side) (h : Showable network x) where
   shown-short : Short x
@@ -37,20 +38,20 @@ module _ (network : ℕ) (x : Side) (h : Showable network x) where
   }
 
   -- with a name of at most 22 bytes
-  side-most : (name : List ℕ) (unit : ℕ) → length name ≤ 22 → length (sideText name network unit true true x) ≤ 183
-  side-most name unit l = omega (arith, side-short x shown-short name network unit true true)
+  side-most : (name : List ℕ) (unit : ℕ) → length name ≤ 22 → length (sideText name network unit Full true x) ≤ 183
+  side-most name unit l = omega (arith, side-short x shown-short name network unit Full true)
 
   -- the name may be left out
-  again-most : (name : List ℕ) (unit : ℕ) → length name ≤ 22 → (b : Bool) → length (sideText (opt b name) network unit true true x) ≤ 183
+  again-most : (name : List ℕ) (unit : ℕ) → length name ≤ 22 → (b : Bool) → length (sideText (opt b name) network unit Full true x) ≤ 183
   unfolding opt
   again-most name unit l true = side-most name unit l
   again-most name unit l false = side-most [] unit (omega arith)
 
-  cancel-most : (opening : List ℕ) → length opening ≡ 6 → (name : List ℕ) (unit : ℕ) → length name ≤ 22 → length (cancelText opening name network unit true true x) ≤ 191
+  cancel-most : (opening : List ℕ) → length opening ≡ 6 → (name : List ℕ) (unit : ℕ) → length name ≤ 22 → length (cancelText opening name network unit Full true x) ≤ 191
   unfolding cancelText
   cancel-most opening six name unit l = simp length-append (omega (arith, six, side-most name unit l, pair-short x))
 
-correction-most : (network unit : ℕ) (name : List ℕ) (x y : Side) → Showable network x → Showable network y → length name ≤ 22 → length (correctionText name network unit true true x y) ≤ longestPrint
+correction-most : (network unit : ℕ) (name : List ℕ) (x y : Side) → Showable network x → Showable network y → length name ≤ 22 → length (correctionText name network unit Full true x y) ≤ longestPrint
 unfolding correctionText
 correction-most network unit name x y h k l =
     simp length-append (omega (arith, side-most network x h name unit l, again-most network y k name unit l (repeatsName (y .letters)), pair-short y))

@@ -17,9 +17,9 @@ use Rattle.rules.specs.Columns.{between}
 use Rattle.rules.specs.Names.{nameText, hasTemporary}
 use Rattle.rules.specs.Price.{wholePart, units}
 use Rattle.rules.specs.Side.{headText, sideText}
-use Rattle.rules.specs.Trade.{dollars, isNormal, showsVolume, printsTrade, tradeFull, tradeShows, printedAfter, afterTrade}
+use Rattle.rules.specs.Trade.{dollars, isNormal, showsVolume, printsTrade, tradeForm, tradeShows, printedAfter, afterTrade}
 use Rattle.rules.specs.Announcement.{modeText, levelText, minimumText, stepText}
-use Rattle.rules.specs.Correction.{correctionText, cancelText, cancelOpening, errorOpening, printsCorrection, correctionFull, correctionShows, cancelFull, cancelShows, afterCorrection}
+use Rattle.rules.specs.Correction.{correctionText, cancelText, cancelOpening, errorOpening, printsCorrection, correctionFull, correctionForm, correctionShows, cancelFull, cancelForm, cancelShows, afterCorrection}
 use Rattle.rules.specs.Day.{Day, vacant, noName, securityAt, nameAt, isEntered, showsTemporary, entered, withSettings, withSecurity, printOf, tradePrint, cancelPrint, correctionPrint, afterLine}
 use Rattle.rules.specs.Shown.{conditionsOf, partOf, Fact, announced, traded, cancelled, erred, corrected, shownVolume, tradeFact, announcedIf, factOf}
 use Rattle.rules.specs.Premise.{tradeFalls, falls}
@@ -51,6 +51,7 @@ use Rattle.claim_wholeday.specs.Invariant.{atPlace, named, Invariant, La
 use Rattle.claim_wholeday.specs.Decodes as decoding
 use Rattle.claim_wholeday.specs.Decodes.{Silent}
 use Rattle.claim_wholeday.proofs.Kept.{NotDate}
+use Rattle.rules.specs.declared.PriceForm.{PriceForm}
 
 -- ---- a security is known by its name
 
@@ -125,10 +126,10 @@ heads-some : (p : ℕ → Bool) (t : List ℕ) → heads p t ≡ true → 0 < le
 heads-some p [] h = absurd (false-true h)
 heads-some p (c ∷ t) h = omega arith
 
-module _ (network : ℕ) (n : List ℕ) (plain : NamePlain network n) (b : Bool) (unit : ℕ) (full shows : Bool) (x : Side) where
-  side-some : 0 < length (sideText (nameText b n) network unit full shows x)
+module _ (network : ℕ) (n : List ℕ) (plain : NamePlain network n) (b : Bool) (unit : ℕ) (form : PriceForm) (shows : Bool) (x : Side) where
+  side-some : 0 < length (sideText (nameText b n) network unit form shows x)
   unfolding sideText headText
-  side-some = heads-some isLetter (sideText (nameText b n) network unit full shows x) (simp append-assoc (heads-append isLetter (nameText b n) _ (name-head network n plain b)))
+  side-some = heads-some isLetter (sideText (nameText b n) network unit form shows x) (simp append-assoc (heads-append isLetter (nameText b n) _ (name-head network n plain b)))
 
 module _ (day e : Day) (k : Invariant e) (l : Later day e) (t : Trade) (f : AcceptedTrade day t) where
   abbrev st : Settings
@@ -174,7 +175,7 @@ module _ (day e : Day) (k : Invariant e) (l : Later day e) (t : Trade) (f : Acce
 
   -- printed: the text under the name that is known
   abbrev text : List ℕ
-  text = sideText (nameText (showsTemporary s) (nameIn (e .names) i)) (s .issue .network) (s .issue .unit) (tradeFull st s (t .market) x) (tradeShows st s (t .market) x) x
+  text = sideText (nameText (showsTemporary s) (nameIn (e .names) i)) (s .issue .network) (s .issue .unit) (tradeForm st s (t .market) x) (tradeShows st s (t .market) x) x
 
   the-print : printsTrade st s (t .market) x ≡ true → tradePrint day t ≡ text
   unfolding tradePrint opt
@@ -190,7 +191,7 @@ module _ (day e : Day) (k : Invariant e) (l : Later day e) (t : Trade) (f : Acce
   mode-is = refl
 
   found-fact : tradeFalls day t ≡ false → printsTrade st s (t .market) x ≡ true
-      → traded i (showsTemporary s && hasTemporary (nameIn (e .names) i)) (priceBy ((carriedOf day) .mode) (getD ((carriedOf day) .printed) (i - 1) 0) (shownPrice (tradeFull st s (t .market) x) (x .price))) (conditionsOf x) (volumeBy ((carriedOf day) .mode) (pick (tradeShows st s (t .market) x) (shownOf (s .issue .network) (s .issue .unit) (x .volume)) unsaid)) ≡ tradeFact day t
+      → traded i (showsTemporary s && hasTemporary (nameIn (e .names) i)) (priceBy ((carriedOf day) .mode) (getD ((carriedOf day) .printed) (i - 1) 0) (shownPrice (tradeForm st s (t .market) x) (x .price))) (conditionsOf x) (volumeBy ((carriedOf day) .mode) (pick (tradeShows st s (t .market) x) (shownOf (s .issue .network) (s .issue .unit) (x .volume)) unsaid)) ≡ tradeFact day t
   unfolding tradeFact shownVolume tradeShows
   found-fact w q =
       rw (carried-price day i (f .entered-there), mode-is, price-by st s (t .market) x (f .side-is) (premise w q), same-trade-name, volume-by (st .mode) (showsVolume st s (t .market) x) (s .issue .network) (s .issue .unit) (x .volume))
@@ -199,9 +200,9 @@ module _ (day e : Day) (k : Invariant e) (l : Later day e) (t : Trade) (f : Acce
   unfolding next tradeFact
   printed w q = record {
     follows = carried-set day i (units (x .price)) after-trade (printed-there after-trade after-entered ∙ price-moves q);
-    some-text = rw (the-print q) (side-some (s .issue .network) (nameIn (e .names) i) (known-trade .is-plain) (showsTemporary s) (s .issue .unit) (tradeFull st s (t .market) x) (tradeShows st s (t .market) x) x);
-    starts = λ r. rw (the-print q) (side-fresh (s .issue .network) (nameIn (e .names) i) (known-trade .is-plain) (showsTemporary s) (s .issue .unit) (tradeFull st s (t .market) x) (tradeShows st s (t .market) x) x (f .side-is .price) r);
-    undone = λ r u. rw (the-print q) (trade-undone (e .names) (s .issue .network) i known-trade (carriedOf day) (showsTemporary s) (s .issue .unit) (tradeFull st s (t .market) x) (tradeShows st s (t .market) x) x r (f .side-is) u ∙ ap (λ (g : Fact). there g r) (found-fact w q));
+    some-text = rw (the-print q) (side-some (s .issue .network) (nameIn (e .names) i) (known-trade .is-plain) (showsTemporary s) (s .issue .unit) (tradeForm st s (t .market) x) (tradeShows st s (t .market) x) x);
+    starts = λ r. rw (the-print q) (side-fresh (s .issue .network) (nameIn (e .names) i) (known-trade .is-plain) (showsTemporary s) (s .issue .unit) (tradeForm st s (t .market) x) (tradeShows st s (t .market) x) x (f .side-is .price) r);
+    undone = λ r u. rw (the-print q) (trade-undone (e .names) (s .issue .network) i known-trade (carriedOf day) (showsTemporary s) (s .issue .unit) (tradeForm st s (t .market) x) (tradeShows st s (t .market) x) x r (f .side-is) u ∙ ap (λ (g : Fact). there g r) (found-fact w q));
   }
 
   trade-owed : tradeFalls day t ≡ false → decoding.Decodes (e .names) day (withSecurity day i after-trade) (tradePrint day t) (pick (printsTrade st s (t .market) x) (some (tradeFact day t)) none)
@@ -222,7 +223,7 @@ module _ (day e : Day) (k : Invariant e) (l : Later day e) (t : Trade) (f : Acce
   known-cancel = known day e k l (t .security) (f .low) (f .high) (f .entered-there)
 
   abbrev cancel-text : List ℕ → List ℕ
-  cancel-text opening = cancelText opening (nameText false (nameIn (e .names) (t .security))) (sc .issue .network) (sc .issue .unit) (cancelFull (day .settings) sc (t .side)) (cancelShows (day .settings) (t .side)) (t .side)
+  cancel-text opening = cancelText opening (nameText false (nameIn (e .names) (t .security))) (sc .issue .network) (sc .issue .unit) (cancelForm (day .settings) sc (t .side)) (cancelShows (day .settings) (t .side)) (t .side)
 
   the-cancel : (opening : List ℕ) → cancelPrint opening day t ≡ cancel-text opening
   unfolding cancelPrint
@@ -233,7 +234,7 @@ module _ (day e : Day) (k : Invariant e) (l : Later day e) (t : Trade) (f : Acce
   cancel-mode = refl
 
   cancel-owed : decoding.Told (e .names) day day (cancelPrint cancelOpening day t) (cancelled (t .security) (partOf (isNormal (day .settings .mode)) (t .side)))
-  unfolding next cancelText cancelFull cancelShows carriedOf
+  unfolding next cancelText cancelForm cancelFull cancelShows carriedOf
   cancel-owed = record {
     follows = refl;
     some-text = rw (the-cancel cancelOpening) (omega arith);
@@ -242,7 +243,7 @@ module _ (day e : Day) (k : Invariant e) (l : Later day e) (t : Trade) (f : Acce
   }
 
   error-owed : decoding.Told (e .names) day day (cancelPrint errorOpening day t) (erred (t .security) (partOf (isNormal (day .settings .mode)) (t .side)))
-  unfolding next cancelText cancelFull cancelShows carriedOf
+  unfolding next cancelText cancelForm cancelFull cancelShows carriedOf
   error-owed = record {
     follows = refl;
     some-text = rw (the-cancel errorOpening) (omega arith);
@@ -268,7 +269,7 @@ module _ (day e : Day) (k : Invariant e) (l : Later day e) (c : Correction) (f :
   correction-stays = carried-same day (c .security) after-correction refl
 
   abbrev correction-text : List ℕ
-  correction-text = correctionText (nameText false (nameIn (e .names) (c .security))) (sx .issue .network) (sx .issue .unit) (correctionFull (day .settings) sx (c .original) (c .correcting)) (correctionShows (day .settings) (c .original) (c .correcting)) (c .original) (c .correcting)
+  correction-text = correctionText (nameText false (nameIn (e .names) (c .security))) (sx .issue .network) (sx .issue .unit) (correctionForm (day .settings) sx (c .original) (c .correcting)) (correctionShows (day .settings) (c .original) (c .correcting)) (c .original) (c .correcting)
 
   the-correction : printsCorrection (day .settings) sx (c .original) (c .correcting) ≡ true → correctionPrint day c ≡ correction-text
   unfolding correctionPrint opt
@@ -279,7 +280,7 @@ module _ (day e : Day) (k : Invariant e) (l : Later day e) (c : Correction) (f :
   no-correction q = rw q
 
   correction-printed : printsCorrection (day .settings) sx (c .original) (c .correcting) ≡ true → decoding.Told (e .names) day (withSecurity day (c .security) after-correction) (correctionPrint day c) (corrected (c .security) (partOf (isNormal (day .settings .mode)) (c .original)) (partOf (isNormal (day .settings .mode)) (c .correcting)))
-  unfolding next correctionText correctionFull correctionShows carriedOf
+  unfolding next correctionText correctionForm correctionFull correctionShows carriedOf
   correction-printed q = record {
     follows = correction-stays;
     some-text = rw (the-correction q) (omega arith);

@@ -3,16 +3,17 @@ use Prim.Native.Nat.{ℕ, _/_}
 use mathlib.Core.Path.{_≡_, refl}
 use mathlib.Core.Bool.{Bool, true, false, _&&_, _||_, not}
 use lib.Dec.{eqb, leb}
-use Rattle.rules.specs.Price.{wholePart, units}
+use Rattle.rules.specs.Price.{wholePart, units, formBy}
 use Rattle.rules.specs.Conditions.{hasRule}
 use Rattle.rules.specs.Trade.{atLevel, tens, endsInZero, rangeAfter}
-use Rattle.rules.specs.Correction.{pricesDiffer, printsInDvd, unlikeLast, printsInBoth, printsCorrection, isMpv, wholeInFull, afterCorrection}
+use Rattle.rules.specs.Correction.{pricesDiffer, printsInDvd, unlikeLast, printsInBoth, printsCorrection, isMpv, wholeInFull, correctionFull, correctionForm, cancelFull, cancelForm, afterCorrection}
 use Rattle.rules.specs.declared.Mode.{Mode}
 use Rattle.rules.specs.declared.Mode.the-variants.{Normal, Dvd, Rpo, Mpv}
 use Rattle.rules.specs.declared.Side.{Side}
 use Rattle.rules.specs.declared.Settings.{Settings}
 use Rattle.rules.specs.declared.Range.{Range}
 use Rattle.rules.specs.declared.Security.{Security}
+use Rattle.rules.specs.declared.PriceForm.{PriceForm}
 
 -- ---- values and whole parts, as a callee answered them
 
@@ -68,6 +69,16 @@ module _ (st : Settings) (s : Security) (x y : Side) where
   prints-mpv r h e = rw h e
 
 pub ruleset modes = (mpv-normal, mpv-dvd, mpv-rpo, mpv-yes, prints-normal, prints-dvd, prints-rpo, prints-mpv)
+
+-- ---- in full or short, by what a callee answered
+
+pub form-correction : (st : Settings) (s : Security) (x y : Side) (full : Bool) (r : PriceForm) → full ≡ correctionFull st s x y → r ≡ formBy full → r ≡ correctionForm st s x y
+unfolding correctionForm
+form-correction st s x y full r e h = rw (← e) h
+
+pub form-cancel : (st : Settings) (s : Security) (x : Side) (full : Bool) (r : PriceForm) → full ≡ cancelFull st s x → r ≡ formBy full → r ≡ cancelForm st s x
+unfolding cancelForm
+form-cancel st s x full r e h = rw (← e) h
 
 -- ---- after a correction
 

@@ -2,6 +2,7 @@
 // Corrections and cancels). Settings and securities may hold any numbers.
 use rules::Letters;
 use rules::Mode;
+use rules::PriceForm;
 use rules::Range;
 use rules::Security;
 use rules::Settings;
@@ -13,7 +14,7 @@ ghost use Rattle.rules.specs.Price.{wholePart, units};
 ghost use Rattle.rules.specs.Conditions.{hasRule};
 ghost use Rattle.rules.specs.Qualifying.{forLast};
 ghost use Rattle.rules.specs.Trade.{atLevel, newRange, tens, endsInZero};
-ghost use Rattle.rules.specs.Correction.{pricesDiffer, printsInDvd, unlikeLast, printsInBoth, printsCorrection, isMpv, wholeInFull, fullPrices, showsVolumes, correctionFull, correctionShows, cancelFull, cancelShows, afterCorrection};
+ghost use Rattle.rules.specs.Correction.{pricesDiffer, printsInDvd, unlikeLast, printsInBoth, printsCorrection, isMpv, wholeInFull, fullPrices, showsVolumes, correctionFull, correctionForm, correctionShows, cancelFull, cancelForm, cancelShows, afterCorrection};
 ghost use Rattle.print_price.specs.Sound.{Sound};
 
 // ---- what prints
@@ -266,7 +267,7 @@ fn shows_volumes(st: Settings, x: Side, y: Side) -> bool
 }
 
 // Both prices of a correction are printed in full.
-pub fn correction_full(st: Settings, s: Security, x: Side, y: Side) -> bool
+fn correction_full(st: Settings, s: Security, x: Side, y: Side) -> bool
     requires { ⌜ Sound (x .price) × Sound (y .price) ⌝ }
     ensures { λ r. ⌜ r ≡ correctionFull st s x y ⌝ }
 {
@@ -275,6 +276,14 @@ pub fn correction_full(st: Settings, s: Security, x: Side, y: Side) -> bool
         return true;
     }
     full_prices(st, s, x, y)
+}
+
+// In full or short.
+pub fn correction_form(st: Settings, s: Security, x: Side, y: Side) -> PriceForm
+    requires { ⌜ Sound (x .price) × Sound (y .price) ⌝ }
+    ensures { λ r. ⌜ r ≡ correctionForm st s x y ⌝ }
+{
+    print_price::form_of(correction_full(st, s, x, y))
 }
 
 // Both volumes of a correction are shown.
@@ -289,7 +298,7 @@ pub fn correction_shows(st: Settings, x: Side, y: Side) -> bool
 }
 
 // The price of a cancel or error is printed in full.
-pub fn cancel_full(st: Settings, s: Security, x: Side) -> bool
+fn cancel_full(st: Settings, s: Security, x: Side) -> bool
     requires { ⌜ Sound (x .price) ⌝ }
     ensures { λ r. ⌜ r ≡ cancelFull st s x ⌝ }
 {
@@ -301,6 +310,14 @@ pub fn cancel_full(st: Settings, s: Security, x: Side) -> bool
         return true;
     }
     whole_in_full(x)
+}
+
+// In full or short.
+pub fn cancel_form(st: Settings, s: Security, x: Side) -> PriceForm
+    requires { ⌜ Sound (x .price) ⌝ }
+    ensures { λ r. ⌜ r ≡ cancelForm st s x ⌝ }
+{
+    print_price::form_of(cancel_full(st, s, x))
 }
 
 // The volume of a cancel or error is shown.

@@ -13,12 +13,13 @@ use Rattle.rules.specs.declared.Printed.{Printed}
 use Rattle.rules.specs.declared.Range.{Range}
 use Rattle.rules.specs.declared.Counts.{Counts}
 use Rattle.rules.specs.declared.Security.{Security}
-use Rattle.rules.specs.Price.{wholePart, units}
+use Rattle.rules.specs.Price.{wholePart, units, formBy}
 use Rattle.rules.specs.Conditions.{hasRule}
 use Rattle.rules.specs.Qualifying.{forRange, forLast}
-use Rattle.rules.specs.Trade.{firstQualifying, newHigh, newLow, newRange, fullPrice, showsVolume, printsAnyhow, printsTrade, tradeFull, tradeShows, rangeAfter, printedAfter, counted, countsAfter, afterTrade}
+use Rattle.rules.specs.Trade.{firstQualifying, newHigh, newLow, newRange, fullPrice, showsVolume, printsAnyhow, printsTrade, tradeFull, tradeForm, tradeShows, rangeAfter, printedAfter, counted, countsAfter, afterTrade}
 use Rattle.decide_levels.specs.Parts.{newAt}
 use Rattle.decide_trade.specs.Value.{firstBy, anyhowBy, rpoBy, mpvBy, byMode, printsBy, fullBy, showsBy, rangeBy, printedBy, countsBy, afterBy}
+use Rattle.rules.specs.declared.PriceForm.{PriceForm}
 
 -- ---- by mode
 
@@ -64,8 +65,9 @@ module _ (st : Settings) (s : Security) (market : ℕ) (x : Side) where
   pub side-prints : (value : ℕ) (ranges lasts rule r : Bool) → value ≡ units (x .price) → ranges ≡ forRange (x .letters) → lasts ≡ forLast (x .letters) → rule ≡ hasRule (x .letters) → r ≡ printsBy st s market (x .volume) value ranges lasts rule → r ≡ printsTrade st s market x
   side-prints value ranges lasts rule r v q l u e = rw (prints-is, ← v, ← q, ← l, ← u) e
 
-  pub side-full : (whole : ℕ) (r : Bool) → whole ≡ wholePart (x .price) → r ≡ fullBy st s market whole → r ≡ tradeFull st s market x
-  side-full whole r w e = rw (full-is, ← w) e
+  pub side-form : (whole : ℕ) (r : PriceForm) → whole ≡ wholePart (x .price) → r ≡ formBy (fullBy st s market whole) → r ≡ tradeForm st s market x
+  unfolding tradeForm
+  side-form whole r w e = rw (full-is, ← w) e
 
   pub side-shows : (lasts rule r : Bool) → lasts ≡ forLast (x .letters) → rule ≡ hasRule (x .letters) → r ≡ showsBy st s market (x .volume) lasts rule → r ≡ tradeShows st s market x
   side-shows lasts rule r l u e = rw (shows-is, ← l, ← u) e

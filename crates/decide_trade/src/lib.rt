@@ -5,6 +5,7 @@
 use rules::Counts;
 use rules::Issue;
 use rules::Mode;
+use rules::PriceForm;
 use rules::Printed;
 use rules::Range;
 use rules::Security;
@@ -14,7 +15,7 @@ ghost use mathlib.Core.Path.{_≡_};
 ghost use mathlib.Core.Bool.{_&&_};
 ghost use Prim.Native.Nat.{_+_, _<_};
 ghost use Rattle.text.specs.Pick.{pick};
-ghost use Rattle.rules.specs.Price.{units};
+ghost use Rattle.rules.specs.Price.{units, formBy};
 ghost use Rattle.rules.specs.Trade.{unlikePrinted, farFromPrinted, fullAt, printsTrade, rangeAfter, counted};
 ghost use Rattle.print_price.specs.Sound.{Sound};
 ghost use Rattle.decide_levels.specs.Parts.{newAt};
@@ -185,7 +186,7 @@ fn full_at(s: Security, market: u64, whole: u64) -> bool
 }
 
 // The price is printed in full.
-pub fn full_by(st: Settings, s: Security, market: u64, whole: u64) -> bool
+fn full_by(st: Settings, s: Security, market: u64, whole: u64) -> bool
     ensures { λ r. ⌜ r ≡ fullBy st s market whole ⌝ }
 {
     let mode = st.mode;
@@ -193,6 +194,13 @@ pub fn full_by(st: Settings, s: Security, market: u64, whole: u64) -> bool
         return true;
     }
     full_at(s, market, whole)
+}
+
+// In full or short.
+pub fn form_by(st: Settings, s: Security, market: u64, whole: u64) -> PriceForm
+    ensures { λ r. ⌜ r ≡ formBy (fullBy st s market whole) ⌝ }
+{
+    print_price::form_of(full_by(st, s, market, whole))
 }
 
 // The volume is shown: at the level, first trade qualifying for last, six, J or G.

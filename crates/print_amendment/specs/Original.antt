@@ -5,6 +5,7 @@ use mathlib.Core.List.{List, _++_}
 use Rattle.text.specs.Bytes.{bytes}
 use Rattle.rules.specs.Side.{sideText}
 use Rattle.rules.specs.declared.Side.{Side}
+use Rattle.rules.specs.declared.PriceForm.{PriceForm}
 
-unfoldable pub originalText : List ℕ → ℕ → ℕ → Bool → Bool → Side → List ℕ
-originalText name network unit full shows x = bytes "<<CORR." ++ sideText name network unit full shows x ++ bytes "WAS."
+unfoldable pub originalText : List ℕ → ℕ → ℕ → PriceForm → Bool → Side → List ℕ
+originalText name network unit form shows x = bytes "<<CORR." ++ sideText name network unit form shows x ++ bytes "WAS."

@@ -2,6 +2,7 @@
 // which is lent the rest of the tape. Their sides are those of trades, each with the columns that it stands in; a name is its
 // columns.
 use rules::Letters;
+use rules::PriceForm;
 use rules::Side;
 ghost use mathlib.Core.Path.{_≡_};
 ghost use mathlib.Core.Bool.{false};
@@ -40,17 +41,17 @@ fn correcting_length(
     name: &[u8],
     network: u64,
     unit: u64,
-    full: bool,
+    form: PriceForm,
     shows: bool,
     y: Side,
 ) -> usize
     requires { ⌜ (length (now name) ≡ nameWidth) × (1 ≤ unit) × (y .price .d ≤ 8) × (y .previous .d ≤ 8) ⌝ }
-    ensures { λ r. ⌜ (r ≡ length (sideText (opt (repeatsName letters) (nameText false (now (name .entry)))) network unit full shows y)) × (r ≤ 183) ⌝ }
+    ensures { λ r. ⌜ (r ≡ length (sideText (opt (repeatsName letters) (nameText false (now (name .entry)))) network unit form shows y)) × (r ≤ 183) ⌝ }
 {
     if decide_letters::repeats_name(letters) {
-        return print_side::side_length(name, false, network, unit, full, shows, y);
+        return print_side::side_length(name, false, network, unit, form, shows, y);
     }
-    print_side::side_length(b"                   ", false, network, unit, full, shows, y)
+    print_side::side_length(b"                   ", false, network, unit, form, shows, y)
 }
 
 fn write_correcting(
@@ -59,16 +60,16 @@ fn write_correcting(
     name: &[u8],
     network: u64,
     unit: u64,
-    full: bool,
+    form: PriceForm,
     shows: bool,
     y: Side,
     part: &[u8],
 ) -> usize
-    requires { ⌜ (length (now name) ≡ nameWidth) × (1 ≤ unit) × SideColumns (now part) y × (length (sideText (opt (repeatsName letters) (nameText false (now name))) network unit full shows y) ≤ length (now rest)) ⌝ }
-    ensures { λ r. ⌜ Written (sideText (opt (repeatsName letters) (nameText false (now (name .entry)))) network unit full shows y) (now (rest .entry)) (now (rest .exit)) r ⌝ }
+    requires { ⌜ (length (now name) ≡ nameWidth) × (1 ≤ unit) × SideColumns (now part) y × (length (sideText (opt (repeatsName letters) (nameText false (now name))) network unit form shows y) ≤ length (now rest)) ⌝ }
+    ensures { λ r. ⌜ Written (sideText (opt (repeatsName letters) (nameText false (now (name .entry)))) network unit form shows y) (now (rest .entry)) (now (rest .exit)) r ⌝ }
 {
     if decide_letters::repeats_name(letters) {
-        return print_side::write_side(rest, name, false, network, unit, full, shows, y, part);
+        return print_side::write_side(rest, name, false, network, unit, form, shows, y, part);
     }
     print_side::write_side(
         rest,
@@ -76,7 +77,7 @@ fn write_correcting(
         false,
         network,
         unit,
-        full,
+        form,
         shows,
         y,
         part,
@@ -101,14 +102,14 @@ pub fn cancel_length(
     name: &[u8],
     network: u64,
     unit: u64,
-    full: bool,
+    form: PriceForm,
     shows: bool,
     x: Side,
 ) -> usize
     requires { ⌜ (length (now name) ≡ nameWidth) × (1 ≤ unit) × (x .price .d ≤ 8) × (x .previous .d ≤ 8) ⌝ }
-    ensures { λ r. ⌜ r ≡ length (cancelText (pick error errorOpening cancelOpening) (nameText false (now (name .entry))) network unit full shows x) ⌝ }
+    ensures { λ r. ⌜ r ≡ length (cancelText (pick error errorOpening cancelOpening) (nameText false (now (name .entry))) network unit form shows x) ⌝ }
 {
-    6 + print_side::side_length(name, false, network, unit, full, shows, x) + end_pair_length(x)
+    6 + print_side::side_length(name, false, network, unit, form, shows, x) + end_pair_length(x)
 }
 
 pub fn write_cancel(
@@ -117,13 +118,13 @@ pub fn write_cancel(
     name: &[u8],
     network: u64,
     unit: u64,
-    full: bool,
+    form: PriceForm,
     shows: bool,
     x: Side,
     part: &[u8],
 ) -> usize
-    requires { ⌜ (length (now name) ≡ nameWidth) × (1 ≤ unit) × SideColumns (now part) x × (length (cancelText (pick error errorOpening cancelOpening) (nameText false (now name)) network unit full shows x) ≤ length (now rest)) ⌝ }
-    ensures { λ r. ⌜ Written (cancelText (pick error errorOpening cancelOpening) (nameText false (now (name .entry))) network unit full shows x) (now (rest .entry)) (now (rest .exit)) r ⌝ }
+    requires { ⌜ (length (now name) ≡ nameWidth) × (1 ≤ unit) × SideColumns (now part) x × (length (cancelText (pick error errorOpening cancelOpening) (nameText false (now name)) network unit form shows x) ≤ length (now rest)) ⌝ }
+    ensures { λ r. ⌜ Written (cancelText (pick error errorOpening cancelOpening) (nameText false (now (name .entry))) network unit form shows x) (now (rest .entry)) (now (rest .exit)) r ⌝ }
 {
     let at = write_opening(rest, error);
     let at2 = at
@@ -133,7 +134,7 @@ pub fn write_cancel(
             false,
             network,
             unit,
-            full,
+            form,
             shows,
             x,
             part,
@@ -147,17 +148,17 @@ pub fn correction_length(
     name: &[u8],
     network: u64,
     unit: u64,
-    full: bool,
+    form: PriceForm,
     shows: bool,
     x: Side,
     y: Side,
 ) -> usize
     requires { ⌜ (length (now name) ≡ nameWidth) × (1 ≤ unit) × (x .price .d ≤ 8) × (x .previous .d ≤ 8) × (y .price .d ≤ 8) × (y .previous .d ≤ 8) ⌝ }
-    ensures { λ r. ⌜ r ≡ length (correctionText (nameText false (now (name .entry))) network unit full shows x y) ⌝ }
+    ensures { λ r. ⌜ r ≡ length (correctionText (nameText false (now (name .entry))) network unit form shows x y) ⌝ }
 {
     let letters = y.letters; // the length, by the correcting trade
-    let a = print_side::side_length(name, false, network, unit, full, shows, x);
-    let b = correcting_length(letters, name, network, unit, full, shows, y);
+    let a = print_side::side_length(name, false, network, unit, form, shows, x);
+    let b = correcting_length(letters, name, network, unit, form, shows, y);
     7 + a + 4 + b + end_pair_length(y)
 }
 
@@ -167,13 +168,13 @@ fn write_original(
     name: &[u8],
     network: u64,
     unit: u64,
-    full: bool,
+    form: PriceForm,
     shows: bool,
     x: Side,
     part: &[u8],
 ) -> usize
-    requires { ⌜ (length (now name) ≡ nameWidth) × (1 ≤ unit) × SideColumns (now part) x × (length (originalText (nameText false (now name)) network unit full shows x) ≤ length (now rest)) ⌝ }
-    ensures { λ r. ⌜ Written (originalText (nameText false (now (name .entry))) network unit full shows x) (now (rest .entry)) (now (rest .exit)) r ⌝ }
+    requires { ⌜ (length (now name) ≡ nameWidth) × (1 ≤ unit) × SideColumns (now part) x × (length (originalText (nameText false (now name)) network unit form shows x) ≤ length (now rest)) ⌝ }
+    ensures { λ r. ⌜ Written (originalText (nameText false (now (name .entry))) network unit form shows x) (now (rest .entry)) (now (rest .exit)) r ⌝ }
 {
     let at = text::write_bytes(rest, b"<<CORR.");
     let at2 = at
@@ -183,7 +184,7 @@ fn write_original(
             false,
             network,
             unit,
-            full,
+            form,
             shows,
             x,
             part,
@@ -196,18 +197,18 @@ pub fn write_correction(
     name: &[u8],
     network: u64,
     unit: u64,
-    full: bool,
+    form: PriceForm,
     shows: bool,
     x: Side,
     y: Side,
     part: &[u8],
     other: &[u8],
 ) -> usize
-    requires { ⌜ (length (now name) ≡ nameWidth) × (1 ≤ unit) × SideColumns (now part) x × SideColumns (now other) y × (length (correctionText (nameText false (now name)) network unit full shows x y) ≤ length (now rest)) ⌝ }
-    ensures { λ r. ⌜ Written (correctionText (nameText false (now (name .entry))) network unit full shows x y) (now (rest .entry)) (now (rest .exit)) r ⌝ }
+    requires { ⌜ (length (now name) ≡ nameWidth) × (1 ≤ unit) × SideColumns (now part) x × SideColumns (now other) y × (length (correctionText (nameText false (now name)) network unit form shows x y) ≤ length (now rest)) ⌝ }
+    ensures { λ r. ⌜ Written (correctionText (nameText false (now (name .entry))) network unit form shows x y) (now (rest .entry)) (now (rest .exit)) r ⌝ }
 {
     let letters = y.letters; // the text, by the correcting trade
-    let at = write_original(rest, name, network, unit, full, shows, x, part);
+    let at = write_original(rest, name, network, unit, form, shows, x, part);
     let at2 = at
         + write_correcting(
             &mut rest[at..],
@@ -215,7 +216,7 @@ pub fn write_correction(
             name,
             network,
             unit,
-            full,
+            form,
             shows,
             y,
             other,

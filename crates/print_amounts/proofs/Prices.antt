@@ -15,15 +15,14 @@ use Rattle.text.specs.Decimal.{decimal, places}
 use Rattle.text.proofs.Decimal.{decimal-small, decimal-big, length-places}
 use Rattle.text.proofs.Writing.{named}
 use Rattle.rules.specs.declared.Price.{Price}
-use Rattle.rules.specs.Price.{wholePart, fraction, units, wholeText, fractionText, shortWhole, priceText}
+use Rattle.rules.specs.Price.{wholePart, fraction, units, wholeText, fractionText, shortWhole, dollarsText, priceText}
 use Rattle.print_amounts.specs.Columns.{PriceColumns}
 use Rattle.print_amounts.proofs.Laying.{Over, back, over-first, over-byte, over-part, over-front, put-back, length-part, lent-part, back-size, written-size}
 use Rattle.print_amounts.proofs.Digits.{Ends, digits-in, places-mod, whole-units, zero-fraction, nonzero-fraction, whole-below, whole-from}
+use Rattle.rules.specs.declared.PriceForm.{PriceForm}
+use Rattle.rules.specs.declared.PriceForm.the-variants.{Full, Short}
 
 -- ---- dollars
-
-abbrev dollars : Bool → ℕ → List ℕ
-dollars full w = pick full (wholeText w) (shortWhole w)
 
 pub whole-digits : (w r : ℕ) → (1 ≤ w) → r ≡ length (decimal w) → r ≡ length (wholeText w)
 unfolding wholeText pick
@@ -38,10 +37,10 @@ short-ends w = go (ltb w 10) refl
     go true e = let l = ltb-true w 10 e in let q : w % 10 ≡ w = omega arith in record { head = []; whole = rw q (decimal-small w l) }
     go false e = record { head = decimal (w / 10); whole = decimal-big w (ltb-false w 10 e) }
 
-dollars-end : (full : Bool) (w : ℕ) → (w ≡ 0 → ⊥) → Ends (decimal w) (dollars full w)
-unfolding wholeText pick
-dollars-end true w z = record { head = []; whole = rw (ne-eqb w 0 z) }
-dollars-end false w z = short-ends w
+dollars-end : (form : PriceForm) (w : ℕ) → (w ≡ 0 → ⊥) → Ends (decimal w) (dollarsText form w)
+unfolding dollarsText wholeText pick
+dollars-end Full w z = record { head = []; whole = rw (ne-eqb w 0 z) }
+dollars-end Short w z = short-ends w
 
 -- ---- the fraction
 
@@ -103,47 +102,47 @@ module _ (columns : List ℕ) (price : Price) (value whole : ℕ) (h : PriceColu
   pub whole-small : whole < 1000000
   whole-small = rw is-whole (whole-below n d (h .sound .decimals) (h .sound .small))
 
-  module _ (full : Bool) (k : ℕ) (z : 1 ≤ whole) (e : k ≡ length (dollars full whole)) where
+  module _ (form : PriceForm) (k : ℕ) (z : 1 ≤ whole) (e : k ≡ length (dollarsText form whole)) where
     some : whole ≡ 0 → ⊥
     some q = omega arith
 
     big : 10 ^ d ≤ n
     big = whole-from n d (h .sound .decimals) (λ q. some (is-whole ∙ q))
 
-    in-columns : (take k (drop (14 - d - k) columns) ≡ dollars full whole) × (take d (drop (14 - d) columns) ≡ places d n)
+    in-columns : (take k (drop (14 - d - k) columns) ≡ dollarsText form whole) × (take d (drop (14 - d) columns) ≡ places d n)
     in-columns =
-        let w : Ends (decimal (n / 10 ^ d)) (dollars full whole) = rw (← is-whole) (dollars-end full whole some) in
-        digits-in columns 14 d n (dollars full whole) k (omega (arith, h .size)) (h .n-is) big w e
+        let w : Ends (decimal (n / 10 ^ d)) (dollarsText form whole) = rw (← is-whole) (dollars-end form whole some) in
+        digits-in columns 14 d n (dollarsText form whole) k (omega (arith, h .size)) (h .n-is) big w e
 
-    price-is : priceText full price ≡ dollars full whole ++ fractionText d (n % 10 ^ d)
+    price-is : priceText form price ≡ dollarsText form whole ++ fractionText d (n % 10 ^ d)
     unfolding priceText fraction wholePart
     price-is = rw is-whole
 
     abbrev laid-text : List ℕ
     laid-text = take k (drop (14 - d - k) columns) ++ bytes "," ++ take d (drop (14 - d) columns)
 
-    text-is : laid-text ≡ dollars full whole ++ bytes "," ++ places d n
+    text-is : laid-text ≡ dollarsText form whole ++ bytes "," ++ places d n
     text-is = rw (in-columns .0, in-columns .1)
 
     -- the dollars alone
-    even : value % 100000000 ≡ 0 → priceText full price ≡ take k laid-text
+    even : value % 100000000 ≡ 0 → priceText form price ≡ take k laid-text
     unfolding units
     even c =
         let f : n % 10 ^ d ≡ 0 = zero-fraction n d (h .sound .decimals) (ap (λ (v : ℕ). v % 100000000) (sym u) ∙ c) in
-        price-is ∙ (no-fraction (dollars full whole) d _ f ∙ sym (ap (take k) (text-is ∙ append-assoc (dollars full whole) (bytes ",") (places d n)) ∙ take-at (dollars full whole) (bytes "," ++ places d n) k (sym e)))
+        price-is ∙ (no-fraction (dollarsText form whole) d _ f ∙ sym (ap (take k) (text-is ∙ append-assoc (dollarsText form whole) (bytes ",") (places d n)) ∙ take-at (dollarsText form whole) (bytes "," ++ places d n) k (sym e)))
 
     -- the fraction too
-    uneven : (value % 100000000 ≡ 0 → ⊥) → priceText full price ≡ take (k + 1 + d) laid-text
+    uneven : (value % 100000000 ≡ 0 → ⊥) → priceText form price ≡ take (k + 1 + d) laid-text
     unfolding units
     uneven c =
         let f : n % 10 ^ d ≡ 0 → ⊥ = nonzero-fraction n d (h .sound .decimals) (λ q. c (ap (λ (v : ℕ). v % 100000000) u ∙ q)) in
         let l : length laid-text ≡ k + 1 + d = ap length text-is ∙ simp (length-append, length-places, ← e) in
-        price-is ∙ (some-fraction (dollars full whole) d _ f ∙ rw (places-mod d n) (sym (take-all (k + 1 + d) laid-text (omega arith) ∙ text-is)))
+        price-is ∙ (some-fraction (dollarsText form whole) d _ f ∙ rw (places-mod d n) (sym (take-all (k + 1 + d) laid-text (omega arith) ∙ text-is)))
 
-    pub price-written : (b a : List ℕ) (m r : ℕ) → m ≡ pick (eqb (value % 100000000) 0) k (k + 1 + d) → Written (take m laid-text) b a r → Written (priceText full price) b a r
+    pub price-written : (b a : List ℕ) (m r : ℕ) → m ≡ pick (eqb (value % 100000000) 0) k (k + 1 + d) → Written (take m laid-text) b a r → Written (priceText form price) b a r
     unfolding pick
     price-written b a m r q w = go (eqb (value % 100000000) 0) refl
       where
-        go : (t : Bool) → eqb (value % 100000000) 0 ≡ t → Written (priceText full price) b a r
+        go : (t : Bool) → eqb (value % 100000000) 0 ≡ t → Written (priceText form price) b a r
         go true p = let f : m ≡ k = q ∙ rw p in named (even (eqb-true (value % 100000000) 0 p) ∙ rw f) w
         go false p = let f : m ≡ k + 1 + d = q ∙ rw p in named (uneven (eqb-false (value % 100000000) 0 p) ∙ rw f) w

@@ -1,6 +1,7 @@
 // Volume and price of a side, written to the rest of the tape from the side's own columns. Each sets a fixed number of bytes
 // there, and puts back those that stood behind its text.
 use rules::Price;
+use rules::PriceForm;
 ghost use mathlib.Core.Path.{_≡_};
 ghost use mathlib.Core.List.{_++_};
 ghost use Prim.Native.Nat.{_+_, _-_, _/_, _%_, _≤_, _<_};
@@ -11,7 +12,7 @@ ghost use Rattle.text.specs.Pick.{pick, opt};
 ghost use Rattle.text.specs.Put.{Written};
 ghost use Rattle.text.specs.Decimal.{decimal};
 ghost use Rattle.rules.specs.Volume.{volumeText};
-ghost use Rattle.rules.specs.Price.{wholeText, shortWhole, units, priceText};
+ghost use Rattle.rules.specs.Price.{dollarsText, units, priceText};
 ghost use Rattle.print_amounts.specs.Columns.{VolumeColumns, PriceColumns};
 
 // ---- bytes by the move
@@ -132,14 +133,14 @@ pub fn write_volume(
 // ---- the price
 
 // The columns of the dollars that are printed.
-fn dollars_size(full: bool, w: u64) -> usize
+fn dollars_size(form: PriceForm, w: u64) -> usize
     requires { ⌜ (1 ≤ w) × (w < 1000000) ⌝ }
-    ensures { λ r. ⌜ (r ≡ length (pick full (wholeText w) (shortWhole w))) × (1 ≤ r) × (r ≤ 6) ⌝ }
+    ensures { λ r. ⌜ (r ≡ length (dollarsText form w)) × (1 ≤ r) × (r ≤ 6) ⌝ }
 {
-    if full {
-        return digits_size(w);
+    match form {
+        PriceForm::Full => digits_size(w),
+        PriceForm::Short => 1,
     }
-    1
 }
 
 // The bytes of the price: of the dollars alone where the fraction is zero.
@@ -175,31 +176,31 @@ fn write_columns(rest: &mut [u8], columns: &[u8], k: usize, d: usize, m: usize) 
 fn write_dollars(
     rest: &mut [u8],
     columns: &[u8],
-    full: bool,
+    form: PriceForm,
     price: Price,
     value: u64,
     whole: u64,
 ) -> usize
     requires { ⌜ PriceColumns (now columns) price × (value ≡ units price) × (whole ≡ value / 100000000) × (1 ≤ whole) × (40 ≤ length (now rest)) ⌝ }
-    ensures { λ r. ⌜ Written (priceText full price) (now (rest .entry)) (now (rest .exit)) r ⌝ }
+    ensures { λ r. ⌜ Written (priceText form price) (now (rest .entry)) (now (rest .exit)) r ⌝ }
 {
-    let k = dollars_size(full, whole);
+    let k = dollars_size(form, whole);
     let d = price.d as usize;
     let m = text_size(value, k, d);
     write_columns(rest, columns, k, d, m)
 }
 
 // `columns` are the side's from n on.
-pub fn write_price(rest: &mut [u8], columns: &[u8], full: bool, price: Price) -> usize
-    requires { ⌜ PriceColumns (now columns) price × (length (priceText full price) ≤ length (now rest)) ⌝ }
-    ensures { λ r. ⌜ Written (priceText full price) (now (rest .entry)) (now (rest .exit)) r ⌝ }
+pub fn write_price(rest: &mut [u8], columns: &[u8], form: PriceForm, price: Price) -> usize
+    requires { ⌜ PriceColumns (now columns) price × (length (priceText form price) ≤ length (now rest)) ⌝ }
+    ensures { λ r. ⌜ Written (priceText form price) (now (rest .entry)) (now (rest .exit)) r ⌝ }
 {
     let value = print_price::in_units(price);
     let whole = value / 100000000;
     if 0 < whole {
         if 40 <= rest.len() {
-            return write_dollars(rest, columns, full, price, value, whole);
+            return write_dollars(rest, columns, form, price, value, whole);
         }
     }
-    print_price::write_price(rest, full, price)
+    print_price::write_price(rest, form, price)
 }

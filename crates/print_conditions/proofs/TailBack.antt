@@ -17,6 +17,7 @@ use Rattle.print_volume.specs.Reading.{markAt}
 use Rattle.text.specs.Reading.{dotDigit}
 use Rattle.print_price.proofs.PriceBack.{NoMore, price-back, full-price}
 use Rattle.print_conditions.specs.Reading.{readDays, readPrevious, readTail, if-there, tailOf}
+use Rattle.rules.specs.declared.PriceForm.the-variants.{Full}
 
 -- what may follow a side: nothing that goes on with any part of its tail
 pub record Ends (s : List ℕ) : Type 0 where
@@ -53,7 +54,7 @@ pair-ends s = record { digit = refl; dot = refl }
 
 previous-yes : (p : Price) (s : List ℕ) → p .d ≤ 8 → readPrevious (previousText p ++ s) ≡ found (some (units p)) s
 unfolding readPrevious previousText starts past
-previous-yes p s l = rw (append-assoc, price-back true p (bytes ">>" ++ s) l (pair-ends s), full-price p l)
+previous-yes p s l = rw (append-assoc, price-back Full p (bytes ">>" ++ s) l (pair-ends s), full-price p l)
 
 pub previous-back : (g : Bool) (p : Price) (s : List ℕ) → p .d ≤ 8 → starts (bytes ">>PREV.LAST") s ≡ false → readPrevious (opt g (previousText p) ++ s) ≡ found (if-there g (units p)) s
 unfolding opt pick

@@ -1,6 +1,7 @@
 // The conditions at the end of a side as a text (document 01, "Price and conditions"): SELLER and its days, RULE127, the
 // previous last; its length and its writer, which is lent the rest of the tape.
 use rules::Price;
+use rules::PriceForm;
 use rules::Side;
 ghost use mathlib.Core.Path.{_≡_};
 ghost use Prim.Native.Nat.{_≤_};
@@ -43,7 +44,7 @@ fn previous_length(g: bool, p: Price) -> usize
     ensures { λ r. ⌜ (r ≡ length (opt g (previousText p))) × (r ≤ 42) ⌝ }
 {
     if g {
-        return 11 + print_price::price_length(true, p) + 2;
+        return 11 + print_price::price_length(PriceForm::Full, p) + 2;
     }
     0
 }
@@ -53,7 +54,7 @@ fn write_last(rest: &mut [u8], p: Price) -> usize
     ensures { λ r. ⌜ Written (previousText p) (now (rest .entry)) (now (rest .exit)) r ⌝ }
 {
     let at = text::write_bytes(rest, b">>PREV.LAST");
-    let at2 = at + print_price::write_price(&mut rest[at..], true, p);
+    let at2 = at + print_price::write_price(&mut rest[at..], PriceForm::Full, p);
     at2 + text::write_bytes(&mut rest[at2..], b">>")
 }
 

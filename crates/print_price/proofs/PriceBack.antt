@@ -13,10 +13,12 @@ use Rattle.text.specs.Pick.{pick}
 use Rattle.text.specs.Decimal.{decimal, places}
 use Rattle.text.specs.Reading.{Read, found, heads, isDigit, number}
 use Rattle.text.proofs.Reading.{digit-yes, number-digit, number-stop, read-decimal, places-head}
-use Rattle.rules.specs.Price.{wholePart, fraction, units, wholeText, fractionText, shortWhole, priceText}
+use Rattle.rules.specs.Price.{wholePart, fraction, units, wholeText, fractionText, shortWhole, dollarsText, priceText}
 use Rattle.rules.specs.declared.Price.{Price}
-use Rattle.print_price.specs.Reading.{Fraction, fractionAt, scaled, readFraction, readPrice, shownPrice}
+use Rattle.print_price.specs.Reading.{Fraction, fractionAt, scaled, readFraction, readPrice, shownWhole, shownPrice}
 use Rattle.text.specs.Reading.{dotDigit}
+use Rattle.rules.specs.declared.PriceForm.{PriceForm}
+use Rattle.rules.specs.declared.PriceForm.the-variants.{Full, Short}
 
 at-digit : (a j q : ℕ) (s : List ℕ) → q < 10 → fractionAt a j ((48 + q) ∷ s) ≡ fractionAt (10 * a + q) (suc j) s
 unfolding fractionAt pick
@@ -61,10 +63,10 @@ read-short : (w : ℕ) (s : List ℕ) → heads isDigit s ≡ false → number 0
 unfolding shortWhole
 read-short w s h = number-digit 0 (w % 10) s (omega arith) ∙ ap (λ a. number a s) (omega arith) ∙ number-stop (w % 10) s h
 
-read-front : (full : Bool) (w : ℕ) (s : List ℕ) → heads isDigit s ≡ false → number 0 (pick full (wholeText w) (shortWhole w) ++ s) ≡ found (pick full w (w % 10)) s
-unfolding pick
-read-front true w s h = read-whole w s h
-read-front false w s h = read-short w s h
+read-front : (form : PriceForm) (w : ℕ) (s : List ℕ) → heads isDigit s ≡ false → number 0 (dollarsText form w ++ s) ≡ found (shownWhole form w) s
+unfolding dollarsText shownWhole
+read-front Full w s h = read-whole w s h
+read-front Short w s h = read-short w s h
 
 fraction-no : (s : List ℕ) → dotDigit s ≡ false → readFraction s ≡ found 0 s
 unfolding readFraction pick
@@ -96,15 +98,15 @@ fraction-head d f s h = go (eqb f 0)
     go false = refl
 
 -- THE PRICE COMES BACK: what is shown of it, before anything that does not go on with it
-pub price-back : (full : Bool) (p : Price) (s : List ℕ) → p .d ≤ 8 → NoMore s → readPrice (priceText full p ++ s) ≡ found (shownPrice full p) s
+pub price-back : (form : PriceForm) (p : Price) (s : List ℕ) → p .d ≤ 8 → NoMore s → readPrice (priceText form p ++ s) ≡ found (shownPrice form p) s
 unfolding readPrice priceText shownPrice fraction
-price-back full p s l m =
+price-back form p s l m =
     let y : p .n % 10 ^ p .d < 10 ^ p .d = mod-lt (p .n) (one-le-pow (p .d) 10 (omega arith)) in
-    rw (append-assoc, read-front full (wholePart p) (fractionText (p .d) (p .n % 10 ^ p .d) ++ s) (fraction-head (p .d) _ s (m .digit)), read-fraction (p .d) (p .n % 10 ^ p .d) s y l m)
+    rw (append-assoc, read-front form (wholePart p) (fractionText (p .d) (p .n % 10 ^ p .d) ++ s) (fraction-head (p .d) _ s (m .digit)), read-fraction (p .d) (p .n % 10 ^ p .d) s y l m)
 
 -- in full it is the price by value
-pub full-price : (p : Price) → p .d ≤ 8 → shownPrice true p ≡ units p
-unfolding shownPrice wholePart fraction units pick
+pub full-price : (p : Price) → p .d ≤ 8 → shownPrice Full p ≡ units p
+unfolding shownPrice shownWhole wholePart fraction units pick
 full-price p l =
     let e : 10 ^ p .d * 10 ^ (8 - p .d) ≡ 10 ^ 8 = sym (pow-add 10 (p .d) (8 - p .d)) ∙ ap (λ k. 10 ^ k) (add-sub-of-le l) in
     ap (λ t. p .n / 10 ^ p .d * t + p .n % 10 ^ p .d * 10 ^ (8 - p .d)) (sym e) ∙ rw (← mul-assoc, ← add-mul, div-add-mod')

@@ -15,9 +15,11 @@ use borrow.Author.Tests.{ne-eqb}
 use Rattle.text.specs.Pick.{pick}
 use Rattle.text.proofs.Writing.{named, then, room, shorter, length-joined, room-no}
 use Rattle.text.proofs.Decimal.{length-places}
-use Rattle.rules.specs.Price.{wholePart, fraction, units, wholeText, fractionText, shortWhole, priceText}
+use Rattle.rules.specs.Price.{wholePart, fraction, units, wholeText, fractionText, shortWhole, dollarsText, priceText, formBy}
 use Rattle.rules.specs.declared.Price.{Price}
 use Rattle.print_price.specs.Sound.{Sound}
+use Rattle.rules.specs.declared.PriceForm.{PriceForm}
+use Rattle.rules.specs.declared.PriceForm.the-variants.{Full, Short}
 
 -- ---- powers of ten
 over-3 : (k : ℕ) → (k ≡ 0 → ⊥) → (k ≡ 1 → ⊥) → (k ≡ 2 → ⊥) → (k ≡ 3 → ⊥) → 4 ≤ k
@@ -72,29 +74,60 @@ pub short-length : (w : ℕ) → 1 ≡ length (shortWhole w)
 unfolding shortWhole
 short-length w = refl
 
-pub short-room : (t : Bool) (u : List ℕ) (w m : ℕ) → length (pick t u (shortWhole w)) ≤ m → t ≡ false → 1 ≤ m
-short-room t u w m l h = omega (arith, short-length w, room-no t u (shortWhole w) m l h)
+-- a whole part in its form
+module _ (form : PriceForm) (w : ℕ) where
+  pub full-length : (r : ℕ) → form ≡ Full → r ≡ length (wholeText w) → r ≡ length (dollarsText form w)
+  unfolding dollarsText
+  full-length r h e = rw h e
 
-pub written-short : {b a : List ℕ} {r : ℕ} (w : ℕ) → Written (places 1 w) b a r → Written (shortWhole w) b a r
-written-short w h = named (short-is w) h
+  pub one-length : form ≡ Short → 1 ≡ length (dollarsText form w)
+  unfolding dollarsText
+  one-length h = rw h (short-length w)
+
+  pub full-room : (m : ℕ) → length (dollarsText form w) ≤ m → form ≡ Full → length (wholeText w) ≤ m
+  unfolding dollarsText
+  full-room m l h = rw h at l
+
+  pub short-room : (m : ℕ) → length (dollarsText form w) ≤ m → form ≡ Short → 1 ≤ m
+  unfolding dollarsText
+  short-room m l h = omega (arith, one-length h)
+
+  pub written-full : {b a : List ℕ} {r : ℕ} → form ≡ Full → Written (wholeText w) b a r → Written (dollarsText form w) b a r
+  unfolding dollarsText
+  written-full h v = rw h v
+
+  pub written-short : {b a : List ℕ} {r : ℕ} → form ≡ Short → Written (places 1 w) b a r → Written (dollarsText form w) b a r
+  unfolding dollarsText
+  written-short h v = rw h (named (short-is w) v)
+
+pub form-as : (full test : Bool) (r : PriceForm) → full ≡ test → r ≡ formBy full → r ≡ formBy test
+form-as full test r e h = rw (← e) h
+
+pub form-full : (full : Bool) → full ≡ true → Full ≡ formBy full
+unfolding formBy pick
+form-full full h = rw h
+
+pub form-short : (full : Bool) → full ≡ false → Short ≡ formBy full
+unfolding formBy pick
+form-short full h = rw h
 
 -- ---- a price: the code's whole part w and fraction f are the definition's
-module _ (full : Bool) (p : Price) (w f : ℕ) where
+module _ (form : PriceForm) (p : Price) (w f : ℕ) where
   abbrev pub front : List ℕ
-  front = pick full (wholeText w) (shortWhole w)
+  front = dollarsText form w
 
-  pub priced : w ≡ wholePart p → f ≡ fraction p → priceText full p ≡ front ++ fractionText (p .d) f
+  pub priced : w ≡ wholePart p → f ≡ fraction p → priceText form p ≡ front ++ fractionText (p .d) f
   unfolding priceText
   priced e g = rw (e, g)
 
-  pub priced-length : (r q : ℕ) → w ≡ wholePart p → f ≡ fraction p → r ≡ length front → q ≡ length (fractionText (p .d) f) → r + q ≡ length (priceText full p)
+  pub priced-length : (r q : ℕ) → w ≡ wholePart p → f ≡ fraction p → r ≡ length front → q ≡ length (fractionText (p .d) f) → r + q ≡ length (priceText form p)
   priced-length r q e g h k = rw (priced e g) (length-joined front (fractionText (p .d) f) r q h k)
 
-  pub priced-first : (m : ℕ) → w ≡ wholePart p → f ≡ fraction p → length (priceText full p) ≤ m → length front ≤ m
+  pub priced-first : (m : ℕ) → w ≡ wholePart p → f ≡ fraction p → length (priceText form p) ≤ m → length front ≤ m
   priced-first m e g h = shorter front (fractionText (p .d) f) m (rw (priced e g) at h)
 
-  pub priced-then : {b xs : List ℕ} {at : ℕ} → w ≡ wholePart p → f ≡ fraction p → Written front b xs at → length (priceText full p) ≤ length b → length (fractionText (p .d) f) ≤ length (take (length xs - at) (drop at xs))
+  pub priced-then : {b xs : List ℕ} {at : ℕ} → w ≡ wholePart p → f ≡ fraction p → Written front b xs at → length (priceText form p) ≤ length b → length (fractionText (p .d) f) ≤ length (take (length xs - at) (drop at xs))
   priced-then e g v h = room (fractionText (p .d) f) v (rw (priced e g) at h)
 
-  pub written-price : {b xs ys : List ℕ} {at n : ℕ} → w ≡ wholePart p → f ≡ fraction p → Written front b xs at → Written (fractionText (p .d) f) (take (length xs - at) (drop at xs)) ys n → Written (priceText full p) b (take at xs ++ (ys ++ drop (length xs - at) (drop at xs))) (at + n)
+  pub written-price : {b xs ys : List ℕ} {at n : ℕ} → w ≡ wholePart p → f ≡ fraction p → Written front b xs at → Written (fractionText (p .d) f) (take (length xs - at) (drop at xs)) ys n → Written (priceText form p) b (take at xs ++ (ys ++ drop (length xs - at) (drop at xs))) (at + n)
   written-price e g v u = named (priced e g) (then v u)

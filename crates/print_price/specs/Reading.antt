@@ -8,6 +8,8 @@ use Rattle.text.specs.Pick.{pick}
 use Rattle.text.specs.Reading.{Read, found, heads, isDigit, number, dotDigit}
 use Rattle.rules.specs.Price.{wholePart, fraction}
 use Rattle.rules.specs.declared.Price.{Price}
+use Rattle.rules.specs.declared.PriceForm.{PriceForm}
+use Rattle.rules.specs.declared.PriceForm.the-variants.{Full, Short}
 
 -- ---- a price: whole part and fraction, by value in units of ten to the power -8
 
@@ -35,5 +37,9 @@ readPrice s =
     found (w .got * 10 ^ 8 + f .got) (f .rest)
 
 -- what is shown of a price: the whole part in full or its units digit, and the fraction
-unfoldable pub shownPrice : Bool → Price → ℕ
-shownPrice full p = pick full (wholePart p) (wholePart p % 10) * 10 ^ 8 + fraction p * 10 ^ (8 - p .d)
+unfoldable pub shownWhole : PriceForm → ℕ → ℕ
+shownWhole Full w = w
+shownWhole Short w = w % 10
+
+unfoldable pub shownPrice : PriceForm → Price → ℕ
+shownPrice form p = shownWhole form (wholePart p) * 10 ^ 8 + fraction p * 10 ^ (8 - p .d)

@@ -1,6 +1,7 @@
 // Prices as texts, in full and short, and by value (document 01, "Price and conditions"): the length of each text and its
 // writer, which is lent the rest of the tape.
 use rules::Price;
+use rules::PriceForm;
 ghost use mathlib.Core.Path.{_≡_};
 ghost use Prim.Native.Nat.{_+_, _≤_, _<_, _^_};
 ghost use mathlib.Core.List.{_++_};
@@ -9,7 +10,7 @@ ghost use Rattle.text.specs.Bytes.{bytes};
 ghost use Rattle.text.specs.Pick.{pick};
 ghost use Rattle.text.specs.Put.{Written};
 ghost use Rattle.text.specs.Decimal.{places};
-ghost use Rattle.rules.specs.Price.{wholePart, fraction, units, wholeText, fractionText, shortWhole, priceText};
+ghost use Rattle.rules.specs.Price.{wholePart, fraction, units, wholeText, fractionText, dollarsText, priceText, formBy};
 ghost use Rattle.print_price.specs.Sound.{Sound};
 
 // Ten to the power k.
@@ -102,41 +103,51 @@ fn write_fraction(rest: &mut [u8], d: u64, f: u64) -> usize
     write_dotted(rest, d as usize, f)
 }
 
-// The whole part in full, or its units digit.
-fn dollars_length(full: bool, w: u64) -> usize
-    ensures { λ r. ⌜ (r ≡ length (pick full (wholeText w) (shortWhole w))) × (r ≤ 20) ⌝ }
+// In full, or otherwise short.
+pub fn form_of(full: bool) -> PriceForm
+    ensures { λ r. ⌜ r ≡ formBy full ⌝ }
 {
     if full {
-        return whole_length(w);
+        return PriceForm::Full;
     }
-    1
+    PriceForm::Short
 }
 
-fn write_dollars(rest: &mut [u8], full: bool, w: u64) -> usize
-    requires { ⌜ length (pick full (wholeText w) (shortWhole w)) ≤ length (now rest) ⌝ }
-    ensures { λ r. ⌜ Written (pick full (wholeText w) (shortWhole w)) (now (rest .entry)) (now (rest .exit)) r ⌝ }
+// The whole part in its form.
+fn dollars_length(form: PriceForm, w: u64) -> usize
+    ensures { λ r. ⌜ (r ≡ length (dollarsText form w)) × (r ≤ 20) ⌝ }
 {
-    if full {
-        return write_whole(rest, w);
+    match form {
+        PriceForm::Full => whole_length(w),
+        PriceForm::Short => 1,
     }
-    text::write_places(rest, w, 1)
 }
 
-pub fn price_length(full: bool, p: Price) -> usize
+fn write_dollars(rest: &mut [u8], form: PriceForm, w: u64) -> usize
+    requires { ⌜ length (dollarsText form w) ≤ length (now rest) ⌝ }
+    ensures { λ r. ⌜ Written (dollarsText form w) (now (rest .entry)) (now (rest .exit)) r ⌝ }
+{
+    match form {
+        PriceForm::Full => write_whole(rest, w),
+        PriceForm::Short => text::write_places(rest, w, 1),
+    }
+}
+
+pub fn price_length(form: PriceForm, p: Price) -> usize
     requires { ⌜ p .d ≤ 8 ⌝ }
-    ensures { λ r. ⌜ (r ≡ length (priceText full p)) × (r ≤ 29) ⌝ }
+    ensures { λ r. ⌜ (r ≡ length (priceText form p)) × (r ≤ 29) ⌝ }
 {
     let w = whole_part(p);
     let f = fraction_of(p);
-    dollars_length(full, w) + fraction_length(p.d, f)
+    dollars_length(form, w) + fraction_length(p.d, f)
 }
 
-pub fn write_price(rest: &mut [u8], full: bool, p: Price) -> usize
-    requires { ⌜ (p .d ≤ 8) × (length (priceText full p) ≤ length (now rest)) ⌝ }
-    ensures { λ r. ⌜ Written (priceText full p) (now (rest .entry)) (now (rest .exit)) r ⌝ }
+pub fn write_price(rest: &mut [u8], form: PriceForm, p: Price) -> usize
+    requires { ⌜ (p .d ≤ 8) × (length (priceText form p) ≤ length (now rest)) ⌝ }
+    ensures { λ r. ⌜ Written (priceText form p) (now (rest .entry)) (now (rest .exit)) r ⌝ }
 {
     let w = whole_part(p);
     let f = fraction_of(p);
-    let at = write_dollars(rest, full, w);
+    let at = write_dollars(rest, form, w);
     at + write_fraction(&mut rest[at..], p.d, f)
 }

@@ -12,12 +12,14 @@ use Rattle.text.specs.Pick.{pick, opt}
 use Rattle.text.specs.Decimal.{decimal, places}
 use Rattle.text.proofs.Decimal.{length-decimal, length-places}
 use Rattle.rules.specs.Volume.{group, fullVolume, isRound, inShares, inHundreds, inTens, volumeText}
-use Rattle.rules.specs.Price.{wholePart, fraction, wholeText, fractionText, shortWhole, priceText}
+use Rattle.rules.specs.Price.{wholePart, fraction, wholeText, fractionText, shortWhole, dollarsText, priceText}
 use Rattle.rules.specs.Conditions.{afterName, afterPrice, sellerText, previousText, atEnd}
 use Rattle.rules.specs.Side.{headText, tailText, sideText}
 use Rattle.rules.specs.declared.Price.{Price}
 use Rattle.rules.specs.declared.Letters.{Letters}
 use Rattle.rules.specs.declared.Side.{Side}
+use Rattle.rules.specs.declared.PriceForm.{PriceForm}
+use Rattle.rules.specs.declared.PriceForm.the-variants as forms
 
 -- a text of at most k bytes
 record Most (k : ℕ) (t : List ℕ) : Type 0 where
@@ -103,12 +105,17 @@ module _ (p : Price) (h : p .n < 10 ^ 20) (l : p .d ≤ 8) where
   unfolding shortWhole
   short-whole = mark 20 _ (omega arith)
 
-  price-short : (full : Bool) → Most 29 (priceText full p)
-  unfolding priceText
-  price-short full = then (chosen full whole-short short-whole) fraction-short
+  dollars-short : (form : PriceForm) → Most 20 (dollarsText form (wholePart p))
+  unfolding dollarsText
+  dollars-short forms.Full = whole-short
+  dollars-short forms.Short = short-whole
 
-  pub price-most : (full : Bool) → length (priceText full p) ≤ 29
-  price-most full = price-short full .within
+  price-short : (form : PriceForm) → Most 29 (priceText form p)
+  unfolding priceText
+  price-short form = then (dollars-short form) fraction-short
+
+  pub price-most : (form : PriceForm) → length (priceText form p) ≤ 29
+  price-most form = price-short form .within
 
 -- ---- conditions
 
@@ -138,7 +145,7 @@ module _ (x : Side) (h : Short x) where
 
   previous-short : Most 42 (previousText (x .previous))
   unfolding previousText
-  previous-short = then (then (mark 11 (bytes ">>PREV.LAST") (omega arith)) (price-short (x .previous) (h .previous-is) (h .previous-decimals) true)) (mark 2 (bytes ">>") (omega arith))
+  previous-short = then (then (mark 11 (bytes ">>PREV.LAST") (omega arith)) (price-short (x .previous) (h .previous-is) (h .previous-decimals) forms.Full)) (mark 2 (bytes ">>") (omega arith))
 
   end-short : Most 75 (atEnd x)
   unfolding atEnd
@@ -148,8 +155,8 @@ module _ (x : Side) (h : Short x) where
   unfolding tailText
   tail-short = then (price-conditions (x .letters)) end-short
 
-  pub side-short : (name : List ℕ) (network unit : ℕ) (full shows : Bool) → length (sideText name network unit full shows x) ≤ length name + 161
+  pub side-short : (name : List ℕ) (network unit : ℕ) (form : PriceForm) (shows : Bool) → length (sideText name network unit form shows x) ≤ length name + 161
   unfolding sideText headText
-  side-short name network unit full shows =
-      let t = then (then (then (then (mark (length name) name (omega arith)) (name-conditions (x .letters))) (shown shows (volume-short (x .volume) (h .volume-is) network unit))) (price-short (x .price) (h .price-is) (h .decimals-are) full)) tail-short in
+  side-short name network unit form shows =
+      let t = then (then (then (then (mark (length name) name (omega arith)) (name-conditions (x .letters))) (shown shows (volume-short (x .volume) (h .volume-is) network unit))) (price-short (x .price) (h .price-is) (h .decimals-are) form)) tail-short in
       omega (arith, t .within)

@@ -16,7 +16,7 @@ use Rattle.text.proofs.Decimal.{decimal-small, decimal-big, ten-ind}
 use Rattle.text.proofs.Reading.{digit-yes, decimal-head, span-all}
 use Rattle.rules.specs.Tape.{isLetter, isUpper}
 use Rattle.rules.specs.Volume.{group, fullVolume, volumeText}
-use Rattle.rules.specs.Price.{wholePart, fraction, wholeText, fractionText, shortWhole, priceText}
+use Rattle.rules.specs.Price.{wholePart, fraction, wholeText, fractionText, shortWhole, dollarsText, priceText}
 use Rattle.rules.specs.Side.{headText, tailText, sideText}
 use Rattle.rules.specs.declared.Price.{Price}
 use Rattle.rules.specs.declared.Side.{Side}
@@ -28,6 +28,8 @@ use Rattle.print_price.proofs.PriceBack.{NoMore, price-back, places-dot}
 use Rattle.print_conditions.specs.Reading.{readTail}
 use Rattle.print_side.specs.Reading.{SideRead, readSide, sideShown}
 use Rattle.print_conditions.proofs.TailBack.{Ends, tail-back, tail-digit, tail-dot, tail-mark}
+use Rattle.rules.specs.declared.PriceForm.{PriceForm}
+use Rattle.rules.specs.declared.PriceForm.the-variants.{Full, Short}
 
 -- ---- where the figures of a price end
 
@@ -75,24 +77,24 @@ run-fraction d f s h m = go (eqb f 0) refl
     go true e = run-stop s m
     go false e = ap (λ r. r .rest) (figures-dot 0 (places d f ++ s) (places-first d f s h (eqb-false f 0 e))) ∙ run-places d f s ∙ run-stop s m
 
-run-front : (full : Bool) (w : ℕ) (s : List ℕ) → run (pick full (wholeText w) (shortWhole w) ++ s) ≡ run s
-unfolding wholeText shortWhole pick
-run-front true w s = go (eqb w 0)
+run-front : (form : PriceForm) (w : ℕ) (s : List ℕ) → run (dollarsText form w ++ s) ≡ run s
+unfolding dollarsText wholeText shortWhole pick
+run-front Full w s = go (eqb w 0)
   where
     go : (a : Bool) → run (pick a [] (decimal w) ++ s) ≡ run s
     go true = refl
     go false = run-decimal w s
-run-front false w s = run-digit (w % 10) s (omega arith)
+run-front Short w s = run-digit (w % 10) s (omega arith)
 
-run-price : (full : Bool) (p : Price) (s : List ℕ) → NoMore s → run (priceText full p ++ s) ≡ s
+run-price : (form : PriceForm) (p : Price) (s : List ℕ) → NoMore s → run (priceText form p ++ s) ≡ s
 unfolding priceText fraction
-run-price full p s m =
-    rw append-assoc (run-front full (wholePart p) (fractionText (p .d) (p .n % 10 ^ p .d) ++ s)
+run-price form p s m =
+    rw append-assoc (run-front form (wholePart p) (fractionText (p .d) (p .n % 10 ^ p .d) ++ s)
     ∙ run-fraction (p .d) (p .n % 10 ^ p .d) s (mod-lt (p .n) (one-le-pow (p .d) 10 (omega arith))) m)
 
-run-is : (full : Bool) (p : Price) (s : List ℕ) → NoMore s → (figures 0 (priceText full p ++ s)) .rest ≡ s
+run-is : (form : PriceForm) (p : Price) (s : List ℕ) → NoMore s → (figures 0 (priceText form p ++ s)) .rest ≡ s
 unfolding run
-run-is full p s m = run-price full p s m
+run-is form p s m = run-price form p s m
 
 -- ---- figures stand in the lower row
 
@@ -131,10 +133,10 @@ no-price p h w f =
     omega arith
 
 -- a price is some text: figures or a figure dot
-pub lower-price : (full : Bool) (p : Price) (s : List ℕ) → 1 ≤ p .n → heads isUpper (priceText full p ++ s) ≡ false
-unfolding priceText wholeText shortWhole fractionText pick
-lower-price false p s h = upper-no (48 + wholePart p % 10) (omega arith) (omega arith)
-lower-price true p s h = go (eqb (wholePart p) 0) (eqb (fraction p) 0) refl refl
+pub lower-price : (form : PriceForm) (p : Price) (s : List ℕ) → 1 ≤ p .n → heads isUpper (priceText form p ++ s) ≡ false
+unfolding priceText dollarsText wholeText shortWhole fractionText pick
+lower-price Short p s h = upper-no (48 + wholePart p % 10) (omega arith) (omega arith)
+lower-price Full p s h = go (eqb (wholePart p) 0) (eqb (fraction p) 0) refl refl
   where
     go : (a b : Bool) → eqb (wholePart p) 0 ≡ a → eqb (fraction p) 0 ≡ b → heads isUpper ((pick a [] (decimal (wholePart p)) ++ pick b [] (44 ∷ places (p .d) (fraction p))) ++ s) ≡ false
     go false b e f = rw append-assoc (lower-decimal (wholePart p) _)
@@ -162,18 +164,18 @@ pub record SideOk (name : List ℕ) (x : Side) : Type 0 where
   pub previous : x .previous .d ≤ 8
 
 -- THE SIDE COMES BACK, whatever the unit and the network, in full or short, the volume shown or not
-pub side-back : (name : List ℕ) (network unit : ℕ) (full shows : Bool) (x : Side) (s : List ℕ) → SideOk name x → Ends s → readSide (sideText name network unit full shows x ++ s) ≡ found (sideShown name network unit full shows x) s
+pub side-back : (name : List ℕ) (network unit : ℕ) (form : PriceForm) (shows : Bool) (x : Side) (s : List ℕ) → SideOk name x → Ends s → readSide (sideText name network unit form shows x ++ s) ≡ found (sideShown name network unit form shows x) s
 unfolding readSide sideText sideShown
-side-back name network unit full shows x s o e =
+side-back name network unit form shows x s o e =
     let t = tailText x ++ s in
-    let p = priceText full (x .price) ++ t in
+    let p = priceText form (x .price) ++ t in
     let v : Shown = pick shows (shownOf network unit (x .volume)) unsaid in
     let m : NoMore t = record { digit = tail-digit x s (e .digit); dot = tail-dot x s (e .dot) } in
-    let k : markAt ((figures 0 p) .rest) ≡ none = rw (run-is full (x .price) t m) (tail-mark x s (e .mark)) in
-    let w : readVolume (shownText v ++ p) ≡ found v p = shown-back v p (within-if shows _ (shown-within network unit (x .volume) (o .volume))) (lower-price full (x .price) t (o .price)) k in
-    let u : span isUpper (headText name (x .letters) ++ (shownText v ++ p)) ≡ found (headText name (x .letters)) (shownText v ++ p) = span-all isUpper _ _ (o .upper) (lower-shown v p (lower-price full (x .price) t (o .price))) in
-    rw (append-assoc, append-assoc, append-assoc, shown-if shows network unit (x .volume), u, w, price-back full (x .price) t (o .decimals) m, tail-back x s (o .previous) e)
+    let k : markAt ((figures 0 p) .rest) ≡ none = rw (run-is form (x .price) t m) (tail-mark x s (e .mark)) in
+    let w : readVolume (shownText v ++ p) ≡ found v p = shown-back v p (within-if shows _ (shown-within network unit (x .volume) (o .volume))) (lower-price form (x .price) t (o .price)) k in
+    let u : span isUpper (headText name (x .letters) ++ (shownText v ++ p)) ≡ found (headText name (x .letters)) (shownText v ++ p) = span-all isUpper _ _ (o .upper) (lower-shown v p (lower-price form (x .price) t (o .price))) in
+    rw (append-assoc, append-assoc, append-assoc, shown-if shows network unit (x .volume), u, w, price-back form (x .price) t (o .decimals) m, tail-back x s (o .previous) e)
 
 -- what follows a head is in the lower row
-pub side-lower : (network unit v : ℕ) (full shows : Bool) (p : Price) (s : List ℕ) → 1 ≤ p .n → heads isUpper (opt shows (volumeText network unit v) ++ (priceText full p ++ s)) ≡ false
-side-lower network unit v full shows p s h = rw (shown-if shows network unit v) (lower-shown (pick shows (shownOf network unit v) unsaid) (priceText full p ++ s) (lower-price full p s h))
+pub side-lower : (network unit v : ℕ) (form : PriceForm) (shows : Bool) (p : Price) (s : List ℕ) → 1 ≤ p .n → heads isUpper (opt shows (volumeText network unit v) ++ (priceText form p ++ s)) ≡ false
+side-lower network unit v form shows p s h = rw (shown-if shows network unit v) (lower-shown (pick shows (shownOf network unit v) unsaid) (priceText form p ++ s) (lower-price form p s h))

@@ -10,6 +10,7 @@ use Rattle.rules.specs.declared.Side.{Side}
 use Rattle.print_volume.specs.Reading.{Shown, unsaid, shownOf, readVolume}
 use Rattle.print_price.specs.Reading.{readPrice, shownPrice}
 use Rattle.print_conditions.specs.Reading.{Tail, readTail, tailOf}
+use Rattle.rules.specs.declared.PriceForm.{PriceForm}
 
 -- what a side shows
 pub record SideRead : Type 0 where
@@ -26,10 +27,10 @@ readSide s =
     let t = readTail (p .rest) in
     found (record { head = u .got; volume = v .got; price = p .got; tail = t .got }) (t .rest)
 
-unfoldable pub sideShown : List ℕ → ℕ → ℕ → Bool → Bool → Side → SideRead
-sideShown name network unit full shows x = record {
+unfoldable pub sideShown : List ℕ → ℕ → ℕ → PriceForm → Bool → Side → SideRead
+sideShown name network unit form shows x = record {
   head = headText name (x .letters);
   volume = pick shows (shownOf network unit (x .volume)) unsaid;
-  price = shownPrice full (x .price);
+  price = shownPrice form (x .price);
   tail = tailOf x;
 }

@@ -1,6 +1,7 @@
 // One side of a trade, cancel, error or correction as a text (document 01, "Trades by mode"): its length and its writer,
 // which is lent the rest of the tape. The same for every kind, unit and network.
 use rules::Letters;
+use rules::PriceForm;
 use rules::Side;
 ghost use mathlib.Core.Path.{_≡_};
 ghost use Prim.Native.Nat.{_+_, _≤_};
@@ -76,18 +77,18 @@ pub fn side_length(
     temporary: bool,
     network: u64,
     unit: u64,
-    full: bool,
+    form: PriceForm,
     shows: bool,
     x: Side,
 ) -> usize
     requires { ⌜ (length (now name) ≡ nameWidth) × (1 ≤ unit) × (x .price .d ≤ 8) × (x .previous .d ≤ 8) ⌝ }
-    ensures { λ r. ⌜ (r ≡ length (sideText (nameText temporary (now (name .entry))) network unit full shows x)) × (r ≤ 183) ⌝ }
+    ensures { λ r. ⌜ (r ≡ length (sideText (nameText temporary (now (name .entry))) network unit form shows x)) × (r ≤ 183) ⌝ }
 {
     let letters = x.letters;
     let price = x.price;
     let a = head_length(name, temporary, letters);
     let b = shown_volume_length(shows, network, unit, x.volume);
-    let c = print_price::price_length(full, price);
+    let c = print_price::price_length(form, price);
     a + b + c + tail_length(x)
 }
 
@@ -99,13 +100,13 @@ pub fn write_side(
     temporary: bool,
     network: u64,
     unit: u64,
-    full: bool,
+    form: PriceForm,
     shows: bool,
     x: Side,
     part: &[u8],
 ) -> usize
-    requires { ⌜ (length (now name) ≡ nameWidth) × (1 ≤ unit) × SideColumns (now part) x × (length (sideText (nameText temporary (now name)) network unit full shows x) ≤ length (now rest)) ⌝ }
-    ensures { λ r. ⌜ Written (sideText (nameText temporary (now (name .entry))) network unit full shows x) (now (rest .entry)) (now (rest .exit)) r ⌝ }
+    requires { ⌜ (length (now name) ≡ nameWidth) × (1 ≤ unit) × SideColumns (now part) x × (length (sideText (nameText temporary (now name)) network unit form shows x) ≤ length (now rest)) ⌝ }
+    ensures { λ r. ⌜ Written (sideText (nameText temporary (now (name .entry))) network unit form shows x) (now (rest .entry)) (now (rest .exit)) r ⌝ }
 {
     let letters = x.letters;
     let price = x.price;
@@ -113,6 +114,6 @@ pub fn write_side(
     let at = write_head(rest, name, temporary, marked, letters);
     let at2 = at
         + print_amounts::write_volume(&mut rest[at..], part, shows, network, unit, x.volume);
-    let at3 = at2 + print_amounts::write_price(&mut rest[at2..], &part[9..46], full, price);
+    let at3 = at2 + print_amounts::write_price(&mut rest[at2..], &part[9..46], form, price);
     at3 + write_tail(&mut rest[at3..], marked, x)
 }

@@ -30,6 +30,7 @@ use Rattle.read_price.proofs.Text.{digits-decimal, price-text}
 use Rattle.read_conditions.specs.declared.Taken.{Taken}
 use Rattle.read_conditions.specs.Tail.{plusCash, plusAverage, plusStopped, plusSeller, plusRule, plusPrevious, sideWith, further, takesCash, cashAt, takesAverage, averageAt, takesStopped, stoppedAt, sellerDays, sellerBy, sellerAt, takesRule, ruleAt, previousIn, previousBy, previousAt, afterPriceAt, atEndAt, tailAt}
 use Rattle.read_conditions.proofs.Steps.{seller-found, previous-found, previous-length}
+use Rattle.rules.specs.declared.PriceForm.the-variants.{Full}
 
 -- ---- texts in the part s from u on
 
@@ -207,7 +208,7 @@ previous-text s p h =
     let f = previous-found s p h in
     let n : 13 + p .used ≡ 11 + (p .used + 2) = omega arith in
     rw (n, take-add 11 (p .used + 2) s, take-add (p .used) 2 (drop 11 s), starts-front (bytes ">>PREV.LAST") s (f .opens), price-text (drop 11 s) p (f .price), starts-front (bytes ">>") (drop (p .used) (drop 11 s)) (f .closes))
-    (sym (append-assoc (bytes ">>PREV.LAST") (priceText true (p .price)) (bytes ">>")))
+    (sym (append-assoc (bytes ">>PREV.LAST") (priceText Full (p .price)) (bytes ">>")))
 
 module _ (s : List ℕ) (u : ℕ) (st : Taken) (b : st .side .letters .g ≡ false) (r : Reads s u st (ruleText (st .side))) where
   stays-last : Reads s u st (lastText (st .side))

@@ -16,7 +16,7 @@ use Rattle.text.specs.Decimal.{places, decimal}
 use Rattle.text.specs.Reading.{heads, isDigit, dotDigit}
 use Rattle.text.proofs.Reading.{digit-yes, places-head, decimal-head}
 use Rattle.text.proofs.Decimal.{length-places, decimal-places, decimal-small, decimal-big, length-small, length-big, length-decimal, ten-ind}
-use Rattle.rules.specs.Price.{wholePart, fraction, units, wholeText, fractionText, priceText}
+use Rattle.rules.specs.Price.{wholePart, fraction, units, wholeText, fractionText, dollarsText, priceText}
 use Rattle.rules.specs.declared.Price.{Price}
 use Rattle.print_price.specs.Sound.{Sound}
 use Rattle.print_price.proofs.PriceBack.{NoMore}
@@ -28,6 +28,7 @@ use Rattle.read_price.specs.Digits.{digitsOnto, digitsAt, zeroFirst}
 use Rattle.read_price.specs.Price.{fractionAt, pricedBy, priceAt}
 use Rattle.read_price.proofs.Bounds.{Counted, digits-counted}
 use Rattle.read_price.proofs.Text.{keeps-some}
+use Rattle.rules.specs.declared.PriceForm.the-variants.{Full}
 
 -- ---- digits
 
@@ -238,8 +239,8 @@ module _ (w : ℕ) (h : w < 10 ^ 6) (k f : ℕ) (l : k ≤ 8) (y : f < 10 ^ k) (
   }
 
 -- THE PRICE COMES BACK: at least its text is read; exactly it, by value, before a rest that does not go on with it
-pub price-again : (p : Price) → Sound p → 1 ≤ p .n → (s : List ℕ) → PriceAgain (priceText true p) p s
-unfolding priceText wholePart fraction fractionText units pick
+pub price-again : (p : Price) → Sound p → 1 ≤ p .n → (s : List ℕ) → PriceAgain (priceText Full p) p s
+unfolding priceText dollarsText wholePart fraction fractionText units pick
 price-again p v o s = go (eqb (p .n % 10 ^ p .d) 0) refl
   where
     ten : 0 < 10 ^ p .d

@@ -16,7 +16,7 @@ use Rattle.text.specs.Decimal.{places, decimal}
 use Rattle.text.specs.Reading.{heads, isDigit, starts}
 use Rattle.text.proofs.Texts.{and-left, and-right, same-true}
 use Rattle.text.proofs.Decimal.{decimal-small, decimal-big}
-use Rattle.rules.specs.Price.{wholePart, fraction, wholeText, fractionText, priceText}
+use Rattle.rules.specs.Price.{wholePart, fraction, wholeText, fractionText, dollarsText, priceText}
 use Rattle.rules.specs.declared.Price.{Price}
 use Rattle.print_price.specs.Sound.{Sound}
 use Rattle.read_price.specs.declared.Digits.{Digits}
@@ -26,6 +26,7 @@ use Rattle.read_price.specs.declared.PriceAnswer.the-variants.{Priced, N
 use Rattle.read_price.specs.Digits.{digitsOnto, digitsAt, zeroFirst}
 use Rattle.read_price.specs.Price.{fractionAt, pricedBy, priceAt}
 use Rattle.read_price.proofs.Bounds.{digit-from, digit-to, Counted, digits-counted, digit-small, digits-count, digits-within, digits-small, digits-below, Fractioned, fraction-found}
+use Rattle.rules.specs.declared.PriceForm.the-variants.{Full}
 
 -- ---- digits
 
@@ -156,7 +157,7 @@ pub record PriceFound (s : List ℕ) (p : PriceRead) : Type 0 where
   pub some : 1 ≤ p .price .n
   pub within : p .used ≤ length s
   pub used : 1 ≤ p .used
-  pub text : take (p .used) s ≡ priceText true (p .price)
+  pub text : take (p .used) s ≡ priceText Full (p .price)
 
 whole-text : (s : List ℕ) (w : Digits) → w ≡ digitsAt 6 s → zeroFirst s ≡ false → take (w .count) s ≡ wholeText (w .value)
 unfolding wholeText pick
@@ -172,8 +173,8 @@ whole-text s w e z = go (eqb (w .count) 0) refl
         let n = digits-numeral 6 s w e z (omega (arith, eqb-false (w .count) 0 q)) in
         rw (ne-eqb (w .value) 0 (λ y. omega (arith, n .some))) (n .text)
 
-full-text : (n d : ℕ) → priceText true (record { n = n; d = d }) ≡ wholeText (n / 10 ^ d) ++ fractionText d (n % 10 ^ d)
-unfolding priceText wholePart fraction pick
+full-text : (n d : ℕ) → priceText Full (record { n = n; d = d }) ≡ wholeText (n / 10 ^ d) ++ fractionText d (n % 10 ^ d)
+unfolding priceText dollarsText wholePart fraction pick
 full-text n d = refl
 
 module _ (s : List ℕ) (w : Digits) (e : w ≡ digitsAt 6 s) (z : zeroFirst s ≡ false) where
@@ -264,5 +265,5 @@ module _ (s : List ℕ) (p : PriceRead) (h : priceAt s ≡ Priced p) where
   pub price-used : 1 ≤ p .used
   price-used = price-found s p h .used
 
-  pub price-text : take (p .used) s ≡ priceText true (p .price)
+  pub price-text : take (p .used) s ≡ priceText Full (p .price)
   price-text = price-found s p h .text

@@ -69,5 +69,5 @@ prints =
     ∷ []
 
 pub marked : map (tape Day.fresh) lists ≡ map bytes prints
-unfolding padded tape one lists prints text·Decimal.places text·Decimal.digitsUp text·Decimal.decimal text·Pick.pick text·Pick.opt text·Pick.all text·Pick.same text·Pick.among text·Pick.member text·Reading.isDigit text·Reading.number text·Reading.span text·Reading.starts text·Reading.past Announcement.minimumDollars Announcement.minimumText Announcement.modeText Announcement.levelText Announcement.stepText Columns.isBlank Columns.blank Columns.justified Columns.digitsFrom Columns.zeroAlone Columns.numeral Columns.numberIn Columns.isNumber Columns.numberOrBlank Columns.valueOf Columns.passes Columns.between Columns.word Columns.filled Columns.leftJustified Columns.isRoot Columns.isLeap Columns.daysIn Columns.isDate Conditions.isCondition Conditions.lettersFormed Conditions.lettersIn Conditions.unrepeated Conditions.noneOf Conditions.atMostOne Conditions.lawfulLetters Conditions.onNetwork Conditions.hasRule Conditions.afterName Conditions.afterPrice Conditions.sellerText Conditions.previousText Conditions.atEnd Correction.repeatsName Correction.endPair Correction.correctionText Correction.cancelText Correction.pricesDiffer Correction.printsInDvd Correction.unlikeLast Correction.printsInBoth Correction.printsCorrection Correction.isMpv Correction.wholeInFull Correction.fullPrices Correction.showsVolumes Correction.correctionFull Correction.correctionShows Correction.cancelFull Correction.cancelShows Correction.afterCorrection Day.vacant Day.noName Day.opened Day.cleared Day.fresh Day.isEntered Day.showsTemporary Day.tradePrint Day.cancelPrint Day.correctionPrint Day.printOf Day.takenName Day.listingRefusal Day.tradeRefusal Day.correctionRefusal Day.dateRefusal Day.stateRefusal Day.undated Day.refusalOf Day.entered Day.afterLine Day.tapeOf Day.after Line.isPrintable Line.isShaped Line.isKind Line.isMarket Line.isNetwork Line.isMode Line.modeOf Line.formedBy Line.sideFormed Line.isPrice Line.previousRanged Line.rangedBy Line.sideRanged Line.sideBy Line.sideOf Line.alike Line.matchedBy Line.sideMatched Line.dateFormed Line.listingFormed Line.modeFormed Line.levelFormed Line.stepFormed Line.tradeFormed Line.correctionFormed Line.isSecurityNumber Line.isUnit Line.dateRanged Line.listingRanged Line.levelRanged Line.stepRanged Line.tradeRanged Line.correctionRanged Line.listingOf Line.tradeOf Line.correctionOf Line.ofKind Line.isFormed Line.isRanged Line.lineOf Names.partText Names.nameText Names.hasTemporary Names.listedSuffixes Names.isClass Names.isSeries Names.isPreferred Names.isSuffix Names.isTemporary Names.isAppendage Names.isReserved Names.lawfulField Names.lawfulName Names.sameName Price.wholePart Price.fraction Price.units Price.wholeText Price.fractionText Price.shortWhole Price.priceText Qualifying.forNeither Qualifying.forRangeOnly Qualifying.forRange Qualifying.forLast Refusal.numberOf Refusal.refuse Side.headText Side.tailText Side.sideText Tape.isLetter Tape.isUpper Tape.isLower Tape.isRaised Trade.six Trade.atLevel Trade.firstQualifying Trade.newHigh Trade.newLow Trade.newRange Trade.tens Trade.endsInZero Trade.dollars Trade.fullAt Trade.fullPrice Trade.showsVolume Trade.printsAnyhow Trade.unlikePrinted Trade.distance Trade.farFromPrinted Trade.printsTrade Trade.isNormal Trade.tradeFull Trade.tradeShows Trade.rangeAfter Trade.printedAfter Trade.counted Trade.countsAfter Trade.afterTrade Volume.group Volume.fullVolume Volume.isRound Volume.inShares Volume.inHundreds Volume.inTens Volume.volumeText
+unfolding padded tape one lists prints text·Decimal.places text·Decimal.digitsUp text·Decimal.decimal text·Pick.pick text·Pick.opt text·Pick.all text·Pick.same text·Pick.among text·Pick.member text·Reading.isDigit text·Reading.number text·Reading.span text·Reading.starts text·Reading.past Announcement.minimumDollars Announcement.minimumText Announcement.modeText Announcement.levelText Announcement.stepText Columns.isBlank Columns.blank Columns.justified Columns.digitsFrom Columns.zeroAlone Columns.numeral Columns.numberIn Columns.isNumber Columns.numberOrBlank Columns.valueOf Columns.passes Columns.between Columns.word Columns.filled Columns.leftJustified Columns.isRoot Columns.isLeap Columns.daysIn Columns.isDate Conditions.isCondition Conditions.lettersFormed Conditions.lettersIn Conditions.unrepeated Conditions.noneOf Conditions.atMostOne Conditions.lawfulLetters Conditions.onNetwork Conditions.hasRule Conditions.afterName Conditions.afterPrice Conditions.sellerText Conditions.previousText Conditions.atEnd Correction.repeatsName Correction.endPair Correction.correctionText Correction.cancelText Correction.pricesDiffer Correction.printsInDvd Correction.unlikeLast Correction.printsInBoth Correction.printsCorrection Correction.isMpv Correction.wholeInFull Correction.fullPrices Correction.showsVolumes Correction.correctionFull Correction.correctionForm Correction.correctionShows Correction.cancelFull Correction.cancelForm Correction.cancelShows Correction.afterCorrection Day.vacant Day.noName Day.opened Day.cleared Day.fresh Day.isEntered Day.showsTemporary Day.tradePrint Day.cancelPrint Day.correctionPrint Day.printOf Day.takenName Day.listingRefusal Day.tradeRefusal Day.correctionRefusal Day.dateRefusal Day.stateRefusal Day.undated Day.refusalOf Day.entered Day.afterLine Day.tapeOf Day.after Line.isPrintable Line.isShaped Line.isKind Line.isMarket Line.isNetwork Line.isMode Line.modeOf Line.formedBy Line.sideFormed Line.isPrice Line.previousRanged Line.rangedBy Line.sideRanged Line.sideBy Line.sideOf Line.alike Line.matchedBy Line.sideMatched Line.dateFormed Line.listingFormed Line.modeFormed Line.levelFormed Line.stepFormed Line.tradeFormed Line.correctionFormed Line.isSecurityNumber Line.isUnit Line.dateRanged Line.listingRanged Line.levelRanged Line.stepRanged Line.tradeRanged Line.correctionRanged Line.listingOf Line.tradeOf Line.correctionOf Line.ofKind Line.isFormed Line.isRanged Line.lineOf Names.partText Names.nameText Names.hasTemporary Names.listedSuffixes Names.isClass Names.isSeries Names.isPreferred Names.isSuffix Names.isTemporary Names.isAppendage Names.isReserved Names.lawfulField Names.lawfulName Names.sameName Price.wholePart Price.fraction Price.units Price.wholeText Price.fractionText Price.shortWhole Price.dollarsText Price.priceText Price.formBy Qualifying.forNeither Qualifying.forRangeOnly Qualifying.forRange Qualifying.forLast Refusal.numberOf Refusal.refuse Side.headText Side.tailText Side.sideText Tape.isLetter Tape.isUpper Tape.isLower Tape.isRaised Trade.six Trade.atLevel Trade.firstQualifying Trade.newHigh Trade.newLow Trade.newRange Trade.tens Trade.endsInZero Trade.dollars Trade.fullAt Trade.fullPrice Trade.showsVolume Trade.printsAnyhow Trade.unlikePrinted Trade.distance Trade.farFromPrinted Trade.printsTrade Trade.isNormal Trade.tradeFull Trade.tradeForm Trade.tradeShows Trade.rangeAfter Trade.printedAfter Trade.counted Trade.countsAfter Trade.afterTrade Volume.group Volume.fullVolume Volume.isRound Volume.inShares Volume.inHundreds Volume.inTens Volume.volumeText
 marked = refl

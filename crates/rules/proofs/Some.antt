@@ -13,7 +13,7 @@ use Rattle.text.specs.Pick.{pick, opt}
 use Rattle.text.specs.Decimal.{places}
 use Rattle.text.proofs.Decimal.{some-digits}
 use Rattle.rules.specs.Volume.{volumeText, fullVolume}
-use Rattle.rules.specs.Price.{wholePart, fraction, wholeText, fractionText, shortWhole, priceText}
+use Rattle.rules.specs.Price.{wholePart, fraction, wholeText, fractionText, shortWhole, dollarsText, priceText}
 use Rattle.rules.specs.Conditions.{afterName}
 use Rattle.rules.specs.Side.{headText, tailText, sideText}
 use Rattle.rules.specs.Correction.{repeatsName, endPair, cancelText, correctionText}
@@ -22,6 +22,8 @@ use Rattle.rules.specs.declared.Mode.{Mode}
 use Rattle.rules.specs.declared.Mode.the-variants.{Normal, Dvd, Rpo, Mpv}
 use Rattle.rules.specs.declared.Price.{Price}
 use Rattle.rules.specs.declared.Side.{Side}
+use Rattle.rules.specs.declared.PriceForm.{PriceForm}
+use Rattle.rules.specs.declared.PriceForm.the-variants.{Full, Short}
 
 pub some-first : (s t : List ℕ) → 1 ≤ length s → 1 ≤ length (s ++ t)
 some-first [] t h = absurd (omega (h, arith))
@@ -65,10 +67,10 @@ some-fraction : (d f : ℕ) → (f ≡ 0 → ⊥) → 1 ≤ length (fractionText
 unfolding fractionText pick
 some-fraction d f h = rw (ne-eqb f 0 h) (some-first (bytes ",") (places d f) (omega arith))
 
-pub some-price : (full : Bool) (p : Price) → 1 ≤ p .n → 1 ≤ length (priceText full p)
-unfolding priceText shortWhole pick
-some-price false p h = some-first ((48 + wholePart p % 10) ∷ []) (fractionText (p .d) (fraction p)) (omega arith)
-some-price true p h = go (eqb (wholePart p) 0) refl
+pub some-price : (form : PriceForm) (p : Price) → 1 ≤ p .n → 1 ≤ length (priceText form p)
+unfolding dollarsText priceText shortWhole pick
+some-price Short p h = some-first ((48 + wholePart p % 10) ∷ []) (fractionText (p .d) (fraction p)) (omega arith)
+some-price Full p h = go (eqb (wholePart p) 0) refl
   where
     go : (b : Bool) → eqb (wholePart p) 0 ≡ b → 1 ≤ length (wholeText (wholePart p) ++ fractionText (p .d) (fraction p))
     go true e = some-then (wholeText (wholePart p)) _ (some-fraction (p .d) (fraction p) (some-part p h (eqb-true (wholePart p) 0 e)))
@@ -76,35 +78,35 @@ some-price true p h = go (eqb (wholePart p) 0) refl
 
 -- ---- trades, cancels, corrections
 
-pub some-side : (name : List ℕ) (network unit : ℕ) (full shows : Bool) (x : Side) → 1 ≤ x .price .n → 1 ≤ length (sideText name network unit full shows x)
+pub some-side : (name : List ℕ) (network unit : ℕ) (form : PriceForm) (shows : Bool) (x : Side) → 1 ≤ x .price .n → 1 ≤ length (sideText name network unit form shows x)
 unfolding sideText
-some-side name network unit full shows x h =
+some-side name network unit form shows x h =
     let front = headText name (x .letters) ++ opt shows (volumeText network unit (x .volume)) in
-    let p = priceText full (x .price) in
-    some-first (front ++ p) (tailText x) (some-then front p (some-price full (x .price) h))
+    let p = priceText form (x .price) in
+    some-first (front ++ p) (tailText x) (some-then front p (some-price form (x .price) h))
 
 -- a side of any price, by its name
-pub some-named : (name : List ℕ) → 1 ≤ length name → (network unit : ℕ) (full shows : Bool) (x : Side) → 1 ≤ length (sideText name network unit full shows x)
+pub some-named : (name : List ℕ) → 1 ≤ length name → (network unit : ℕ) (form : PriceForm) (shows : Bool) (x : Side) → 1 ≤ length (sideText name network unit form shows x)
 unfolding sideText headText
-some-named name h network unit full shows x =
+some-named name h network unit form shows x =
     let v = opt shows (volumeText network unit (x .volume)) in
-    let p = priceText full (x .price) in
+    let p = priceText form (x .price) in
     some-first (((name ++ afterName (x .letters)) ++ v) ++ p) (tailText x)
     (some-first ((name ++ afterName (x .letters)) ++ v) p
     (some-first (name ++ afterName (x .letters)) v
     (some-first name (afterName (x .letters)) h)))
 
-pub some-cancel : (opening name : List ℕ) (network unit : ℕ) (full shows : Bool) (x : Side) → 1 ≤ length opening → 1 ≤ length (cancelText opening name network unit full shows x)
+pub some-cancel : (opening name : List ℕ) (network unit : ℕ) (form : PriceForm) (shows : Bool) (x : Side) → 1 ≤ length opening → 1 ≤ length (cancelText opening name network unit form shows x)
 unfolding cancelText
-some-cancel opening name network unit full shows x h =
-    let s = sideText name network unit full shows x in
+some-cancel opening name network unit form shows x h =
+    let s = sideText name network unit form shows x in
     some-first (opening ++ s) (endPair x) (some-first opening s h)
 
-pub some-correction : (name : List ℕ) (network unit : ℕ) (full shows : Bool) (x y : Side) → 1 ≤ length (correctionText name network unit full shows x y)
+pub some-correction : (name : List ℕ) (network unit : ℕ) (form : PriceForm) (shows : Bool) (x y : Side) → 1 ≤ length (correctionText name network unit form shows x y)
 unfolding correctionText
-some-correction name network unit full shows x y =
-    let a = sideText name network unit full shows x in
-    let b = sideText (opt (repeatsName (y .letters)) name) network unit full shows y in
+some-correction name network unit form shows x y =
+    let a = sideText name network unit form shows x in
+    let b = sideText (opt (repeatsName (y .letters)) name) network unit form shows y in
     some-first (((bytes "<<CORR." ++ a) ++ bytes "WAS.") ++ b) (endPair y)
     (some-first ((bytes "<<CORR." ++ a) ++ bytes "WAS.") b
     (some-first (bytes "<<CORR." ++ a) (bytes "WAS.")

@@ -11,6 +11,7 @@ use Rattle.rules.specs.Price.{priceText}
 use Rattle.rules.specs.declared.Letters.{Letters}
 use Rattle.rules.specs.declared.Price.{Price}
 use Rattle.rules.specs.declared.Side.{Side}
+use Rattle.rules.specs.declared.PriceForm.the-variants.{Full}
 
 -- O opened, S sold, L sold last, N next day, M next day only, C cash, K cash only, B average, T stopped, R seller, J Rule 127, G Rule 155
 unfoldable pub isCondition : ℕ → Bool
@@ -78,7 +79,7 @@ sellerText days = bytes "SELLER" ++ decimal days
 
 -- `>>PREV.LAST`, previous last in full, `>>`
 unfoldable pub previousText : Price → List ℕ
-previousText p = bytes ">>PREV.LAST" ++ priceText true p ++ bytes ">>"
+previousText p = bytes ">>PREV.LAST" ++ priceText Full p ++ bytes ">>"
 
 -- at the end: SELLER and days; RULE127; previous last
 unfoldable pub atEnd : Side → List ℕ

@@ -5,7 +5,7 @@ use mathlib.Core.List.{List, [], _++_}
 use lib.Dec.{leb, eqb}
 use Rattle.text.specs.Bytes.{bytes}
 use Rattle.text.specs.Pick.{pick, opt}
-use Rattle.rules.specs.Price.{wholePart, units}
+use Rattle.rules.specs.Price.{wholePart, units, formBy}
 use Rattle.rules.specs.Conditions.{hasRule}
 use Rattle.rules.specs.Qualifying.{forLast}
 use Rattle.rules.specs.Side.{sideText}
@@ -17,6 +17,7 @@ use Rattle.rules.specs.declared.Side.{Side}
 use Rattle.rules.specs.declared.Settings.{Settings}
 use Rattle.rules.specs.declared.Range.{Range}
 use Rattle.rules.specs.declared.Security.{Security}
+use Rattle.rules.specs.declared.PriceForm.{PriceForm}
 
 -- the name repeats after WAS. if the correcting trade has any of S L O C K N M B
 unfoldable pub repeatsName : Letters → Bool
@@ -27,19 +28,19 @@ unfoldable pub endPair : Side → List ℕ
 endPair x = opt (not (x .letters .g)) (bytes ">>")
 
 -- `<<CORR.`, original, `WAS.`, correcting trade, `>>`
-unfoldable pub correctionText : List ℕ → ℕ → ℕ → Bool → Bool → Side → Side → List ℕ
-correctionText name network unit full shows original correcting =
+unfoldable pub correctionText : List ℕ → ℕ → ℕ → PriceForm → Bool → Side → Side → List ℕ
+correctionText name network unit form shows original correcting =
     bytes "<<CORR."
-    ++ sideText name network unit full shows original
+    ++ sideText name network unit form shows original
     ++ bytes "WAS."
-    ++ sideText (opt (repeatsName (correcting .letters)) name) network unit full shows correcting
+    ++ sideText (opt (repeatsName (correcting .letters)) name) network unit form shows correcting
     ++ endPair correcting
 
 -- `<<CXL.` or `<<ERR.`, trade, `>>`
-unfoldable pub cancelText : List ℕ → List ℕ → ℕ → ℕ → Bool → Bool → Side → List ℕ
-cancelText opening name network unit full shows x =
+unfoldable pub cancelText : List ℕ → List ℕ → ℕ → ℕ → PriceForm → Bool → Side → List ℕ
+cancelText opening name network unit form shows x =
     opening
-    ++ sideText name network unit full shows x
+    ++ sideText name network unit form shows x
     ++ endPair x
 
 abbrev pub cancelOpening : List ℕ
@@ -109,12 +110,18 @@ showsVolumes st original correcting = atLevel st (correcting .volume) || (hasRul
 unfoldable pub correctionFull : Settings → Security → Side → Side → Bool
 correctionFull st s original correcting = isNormal (st .mode) || fullPrices st s original correcting
 
+unfoldable pub correctionForm : Settings → Security → Side → Side → PriceForm
+correctionForm st s original correcting = formBy (correctionFull st s original correcting)
+
 unfoldable pub correctionShows : Settings → Side → Side → Bool
 correctionShows st original correcting = isNormal (st .mode) || showsVolumes st original correcting
 
 -- cancels always print: full price if it ends in 0, unit 1, 1,000 or over; volume at the level, or J or G
 unfoldable pub cancelFull : Settings → Security → Side → Bool
 cancelFull st s x = isNormal (st .mode) || (eqb (s .issue .unit) 1 || wholeInFull x)
+
+unfoldable pub cancelForm : Settings → Security → Side → PriceForm
+cancelForm st s x = formBy (cancelFull st s x)
 
 unfoldable pub cancelShows : Settings → Side → Bool
 cancelShows st x = isNormal (st .mode) || (atLevel st (x .volume) || hasRule (x .letters))

@@ -11,9 +11,9 @@ use Rattle.rules.specs.Columns.{column}
 use Rattle.rules.specs.Names.{nameText, sameName, hasTemporary}
 use Rattle.rules.specs.Conditions.{onNetwork}
 use Rattle.rules.specs.Side.{sideText}
-use Rattle.rules.specs.Trade.{printsTrade, tradeFull, tradeShows, afterTrade}
+use Rattle.rules.specs.Trade.{printsTrade, tradeForm, tradeShows, afterTrade}
 use Rattle.rules.specs.Announcement.{modeText, levelText, stepText}
-use Rattle.rules.specs.Correction.{correctionText, cancelText, cancelOpening, errorOpening, printsCorrection, correctionFull, correctionShows, cancelFull, cancelShows, afterCorrection}
+use Rattle.rules.specs.Correction.{correctionText, cancelText, cancelOpening, errorOpening, printsCorrection, correctionForm, correctionShows, cancelForm, cancelShows, afterCorrection}
 use Rattle.rules.specs.Line.{isShaped, isKind, isFormed, isRanged, lineOf, nameColumns}
 use Rattle.rules.specs.Refusal.{refuse}
 use Rattle.rules.specs.declared.Mode.{Mode}
@@ -97,14 +97,14 @@ tradePrint day t =
     let s = securityAt day (t .security) in
     let x = t .side in
     opt (printsTrade st s (t .market) x)
-    (sideText (nameText (showsTemporary s) (nameAt day (t .security))) (s .issue .network) (s .issue .unit) (tradeFull st s (t .market) x) (tradeShows st s (t .market) x) x)
+    (sideText (nameText (showsTemporary s) (nameAt day (t .security))) (s .issue .network) (s .issue .unit) (tradeForm st s (t .market) x) (tradeShows st s (t .market) x) x)
 
 unfoldable pub cancelPrint : List ℕ → Day → Trade → List ℕ
 cancelPrint opening day t =
     let st = day .settings in
     let s = securityAt day (t .security) in
     let x = t .side in
-    cancelText opening (nameText false (nameAt day (t .security))) (s .issue .network) (s .issue .unit) (cancelFull st s x) (cancelShows st x) x
+    cancelText opening (nameText false (nameAt day (t .security))) (s .issue .network) (s .issue .unit) (cancelForm st s x) (cancelShows st x) x
 
 unfoldable pub correctionPrint : Day → Correction → List ℕ
 correctionPrint day c =
@@ -113,7 +113,7 @@ correctionPrint day c =
     let x = c .original in
     let y = c .correcting in
     opt (printsCorrection st s x y)
-    (correctionText (nameText false (nameAt day (c .security))) (s .issue .network) (s .issue .unit) (correctionFull st s x y) (correctionShows st x y) x y)
+    (correctionText (nameText false (nameAt day (c .security))) (s .issue .network) (s .issue .unit) (correctionForm st s x y) (correctionShows st x y) x y)
 
 -- D and S lines print nothing
 unfoldable pub printOf : Day → Line → List ℕ

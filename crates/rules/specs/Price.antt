@@ -7,6 +7,8 @@ use Rattle.text.specs.Bytes.{bytes}
 use Rattle.text.specs.Pick.{pick}
 use Rattle.text.specs.Decimal.{decimal, places}
 use Rattle.rules.specs.declared.Price.{Price}
+use Rattle.rules.specs.declared.PriceForm.{PriceForm}
+use Rattle.rules.specs.declared.PriceForm.the-variants.{Full, Short}
 
 -- a price is n over ten to the power d: its whole part and its fraction
 unfoldable pub wholePart : Price → ℕ
@@ -31,6 +33,14 @@ fractionText d f = pick (eqb f 0) [] (bytes "," ++ places d f)
 unfoldable pub shortWhole : ℕ → List ℕ
 shortWhole w = (48 + w % 10) ∷ []
 
--- a price in full, or short
-unfoldable pub priceText : Bool → Price → List ℕ
-priceText full p = pick full (wholeText (wholePart p)) (shortWhole (wholePart p)) ++ fractionText (p .d) (fraction p)
+-- a whole part in its form
+unfoldable pub dollarsText : PriceForm → ℕ → List ℕ
+dollarsText Full w = wholeText w
+dollarsText Short w = shortWhole w
+
+unfoldable pub priceText : PriceForm → Price → List ℕ
+priceText form p = dollarsText form (wholePart p) ++ fractionText (p .d) (fraction p)
+
+-- full price, or otherwise short
+unfoldable pub formBy : Bool → PriceForm
+formBy full = pick full Full Short

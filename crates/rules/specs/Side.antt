@@ -8,6 +8,7 @@ use Rattle.rules.specs.Price.{priceText}
 use Rattle.rules.specs.Conditions.{afterName, afterPrice, atEnd}
 use Rattle.rules.specs.declared.Letters.{Letters}
 use Rattle.rules.specs.declared.Side.{Side}
+use Rattle.rules.specs.declared.PriceForm.{PriceForm}
 
 -- the name and the conditions after it
 unfoldable pub headText : List ℕ → Letters → List ℕ
@@ -18,9 +19,9 @@ unfoldable pub tailText : Side → List ℕ
 tailText x = afterPrice (x .letters) ++ atEnd x
 
 -- order: name, volume, price, conditions
-unfoldable pub sideText : List ℕ → ℕ → ℕ → Bool → Bool → Side → List ℕ
-sideText name network unit full shows x =
+unfoldable pub sideText : List ℕ → ℕ → ℕ → PriceForm → Bool → Side → List ℕ
+sideText name network unit form shows x =
     headText name (x .letters)
     ++ opt shows (volumeText network unit (x .volume))
-    ++ priceText full (x .price)
+    ++ priceText form (x .price)
     ++ tailText x

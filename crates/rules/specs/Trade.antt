@@ -3,7 +3,7 @@ use Prim.Native.Nat.{ℕ, _+_, _*_, _/_, _%_, suc}
 use mathlib.Core.Bool.{Bool, true, false, _&&_, _||_, not}
 use lib.Dec.{leb, ltb, eqb}
 use Rattle.text.specs.Pick.{pick}
-use Rattle.rules.specs.Price.{wholePart, units}
+use Rattle.rules.specs.Price.{wholePart, units, formBy}
 use Rattle.rules.specs.Conditions.{hasRule}
 use Rattle.rules.specs.Qualifying.{forRange, forLast}
 use Rattle.rules.specs.declared.Mode.{Mode}
@@ -17,6 +17,7 @@ use Rattle.rules.specs.declared.Printed.{Printed}
 use Rattle.rules.specs.declared.Range.{Range}
 use Rattle.rules.specs.declared.Counts.{Counts}
 use Rattle.rules.specs.declared.Security.{Security}
+use Rattle.rules.specs.declared.PriceForm.{PriceForm}
 
 -- the term "six": a first-day issue, its primary market, fewer than six such trades before
 unfoldable pub six : Security → ℕ → Bool
@@ -112,6 +113,9 @@ isNormal Mpv = false
 -- normal: all in full
 unfoldable pub tradeFull : Settings → Security → ℕ → Side → Bool
 tradeFull st s market x = isNormal (st .mode) || fullPrice s market x
+
+unfoldable pub tradeForm : Settings → Security → ℕ → Side → PriceForm
+tradeForm st s market x = formBy (tradeFull st s market x)
 
 unfoldable pub tradeShows : Settings → Security → ℕ → Side → Bool
 tradeShows st s market x = isNormal (st .mode) || showsVolume st s market x

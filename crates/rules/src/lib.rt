@@ -43,6 +43,12 @@ pub struct Price {
     pub d: u64,
 }
 
+// How the whole part of a price is written (Price and conditions): in full, or short, its units digit alone.
+pub enum PriceForm {
+    Full,
+    Short,
+}
+
 // The condition letters of a side, each there or not (Price and conditions).
 pub struct Letters {
     pub o: bool,

@@ -6,8 +6,8 @@ use Rattle.call_plan.proofs.cancel_of.Tie as tie
 sub-t6 : tie.Need-sub-t6
 sub-t6 c = search needs
 
-cancel-full-requires : tie.Need-cancel-full-requires
-cancel-full-requires c κs = search needs
+cancel-form-requires : tie.Need-cancel-form-requires
+cancel-form-requires c κs = search needs
 
 cancel-shows-requires : tie.Need-cancel-shows-requires
 cancel-shows-requires c κs = search needs
@@ -16,4 +16,4 @@ returns : tie.Need-returns
 returns c = search planned-cancel
 
 pub cancel-of-spec : {M : Type 1} → statement M
-cancel-of-spec = tie.close (tie.spec sub-t6 cancel-full-requires cancel-shows-requires returns)
+cancel-of-spec = tie.close (tie.spec sub-t6 cancel-form-requires cancel-shows-requires returns)

@@ -9,8 +9,8 @@ sub-t6 c = search needs
 prints-correction-requires : tie.Need-prints-correction-requires
 prints-correction-requires c κs = search needs
 
-correction-full-requires : tie.Need-correction-full-requires
-correction-full-requires c κs = search needs
+correction-form-requires : tie.Need-correction-form-requires
+correction-form-requires c κs = search needs
 
 correction-shows-requires : tie.Need-correction-shows-requires
 correction-shows-requires c κs = search needs
@@ -27,7 +27,7 @@ correction-of-spec =
     (tie.spec
     sub-t6
     prints-correction-requires
-    correction-full-requires
+    correction-form-requires
     correction-shows-requires
     after-correction-requires
     returns)

@@ -27,8 +27,8 @@ sub-t13 c = search needs
 shows-temporary-requires : tie.Need-shows-temporary-requires
 shows-temporary-requires c κs = search needs
 
-full-by-requires : tie.Need-full-by-requires
-full-by-requires c κs = search needs
+form-by-requires : tie.Need-form-by-requires
+form-by-requires c κs = search needs
 
 shows-by-requires : tie.Need-shows-by-requires
 shows-by-requires c κs = search needs
@@ -41,7 +41,7 @@ returns c =
     planned _ _ _ _ _ _ _ _ _ _ _ _ _
     (c .after-by .ensures)
     (c .before .shows-by .ensures)
-    (c .before .before .full-by .ensures)
+    (c .before .before .form-by .ensures)
     (c .before .before .before .before .before .prints-by .ensures)
     (c .before .before .before .shows-temporary .ensures)
     (c .before .before .before .before .before .before .before .before .before .before .in-units .ensures .0)
@@ -62,7 +62,7 @@ print-plan-spec =
     prints-by-requires
     sub-t13
     shows-temporary-requires
-    full-by-requires
+    form-by-requires
     shows-by-requires
     after-by-requires
     returns)

@@ -3,8 +3,8 @@ use borrow.Author.Needs.{needs}
 use Rattle.call_trade.proofs.print_out.Statement.{statement}
 use Rattle.call_trade.proofs.print_out.Tie as tie
 
-full-by-requires : tie.Need-full-by-requires
-full-by-requires c κs = search needs
+form-by-requires : tie.Need-form-by-requires
+form-by-requires c κs = search needs
 
 shows-by-requires : tie.Need-shows-by-requires
 shows-by-requires c κs = search needs
@@ -40,7 +40,7 @@ pub print-out-spec : {M : Type 1} → statement M
 print-out-spec =
     tie.close
     (tie.spec
-    full-by-requires
+    form-by-requires
     shows-by-requires
     shows-temporary-requires
     name-at-requires
