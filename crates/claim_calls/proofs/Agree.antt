@@ -16,7 +16,7 @@ use Rattle.rules.specs.Trade.{printsTrade, tradeForm, tradeShows, afterTrade}
 use Rattle.rules.specs.Correction.{correctionText, cancelText, cancelOpening, errorOpening, printsCorrection, correctionForm, correctionShows, cancelForm, cancelShows, afterCorrection}
 use Rattle.rules.specs.Columns.{column}
 use Rattle.rules.specs.Line.{isShaped, isFormed, isRanged, lineOf, ofKind, nameColumns}
-use Rattle.rules.specs.Refusal.{refuse}
+use Rattle.rules.specs.Refusal.{refuse, refusalNumber}
 use Rattle.rules.specs.Day as rules
 use Rattle.rules.specs.Day.{Day, Call, cleared, securityAt, nameAt, isEntered, showsTemporary, entered, tradePrint, cancelPrint, correctionPrint, stateRefusal, dateRefusal, listingRefusal, tradeRefusal, correctionRefusal, undated, refusalOf, afterLine, tapeOf, after}
 use Rattle.rules.specs.declared.Mode.{Mode}
@@ -38,7 +38,7 @@ use Rattle.call_plan.specs.declared.Plan.the-variants.{Stop, Open, Enter, Chang
 use Rattle.call_plan.specs.Plan.{datePlan, listingPlan, unlessStopped, printPlan, tradePlan, cancelOf, cancelPlan, correctionOf, correctionPlan, linePlan, readPlan, planOf, SoundListing, SoundTrade, SoundCorrection, SoundLine}
 use Rattle.call_plan.proofs.Ranged.{sound-line, shaped}
 use Rattle.call_print.specs.Print.{printedName, printText, cancelled, corrected, textOf, fittedOf, printOf}
-use Rattle.engine.specs.Taken.{asked, outcomeOf}
+use Rattle.engine.specs.Taken.{asked, outcomeOf, stopNumber}
 use Rattle.call_state.specs.After.{settingsAfter, tableAfter, namesAfter}
 use Rattle.claim_calls.specs.Held.{stopOf, dayAfter, outcomeBy, ByRules}
 
@@ -234,6 +234,18 @@ outcome-by (Print t) n = refl
 outcome-by (Cancel t) n = refl
 outcome-by (Correct c) n = refl
 
+stop-number : (p : Plan) → stopNumber p ≡ refusalNumber (stopOf p)
+unfolding stopNumber refusalNumber stopOf
+stop-number (Stop r) = refl
+stop-number (Open d) = refl
+stop-number (Enter i s) = refl
+stop-number (Change m) = refl
+stop-number (Level l) = refl
+stop-number (Step l) = refl
+stop-number (Print t) = refl
+stop-number (Cancel t) = refl
+stop-number (Correct c) = refl
+
 -- ---- any line
 
 module _ (st : Settings) (table names line : List ℕ) (room : ℕ) (rows : length table ≡ tableSize) (places : length names ≡ namesSize) where
@@ -286,6 +298,7 @@ module _ (st : Settings) (table names line : List ℕ) (room : ℕ) (rows : leng
       record {
         outcome-is = outcome-by (asked st table names line room) _ ∙ (ap (outcomeBy (stopOf (asked st table names line room))) (ap length (sym printed)) ∙ ap (λ (o : Option Refusal). outcomeBy o (length (tapeOf (dayOf st table names) call))) (sym (agrees .refusal-is)));
         refusal-is = agrees .refusal-is;
+        number-is = stop-number (asked st table names line room) ∙ ap refusalNumber (sym (agrees .refusal-is));
         print-is = printed;
         day-is = ap (λ (o : Option Refusal). elim o [ some r ↦ dayOf st table names | none ↦ afterLine (dayOf st table names) (nameColumns line) (lineOf line) ]) (agrees .refusal-is) ∙ (e .1);
       }

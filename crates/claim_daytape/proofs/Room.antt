@@ -11,7 +11,7 @@ use borrow.Author.Tests.{le-ltb}
 use Rattle.text.specs.Pick.{pick}
 use Rattle.rules.specs.Columns.{column}
 use Rattle.rules.specs.Line.{isShaped, isKind, isFormed, isRanged, lineOf, nameColumns}
-use Rattle.rules.specs.Refusal.{refuse, numberOf}
+use Rattle.rules.specs.Refusal.{refuse, numberOf, refusalNumber}
 use Rattle.rules.specs.Day.{Day, listingRefusal, tradeRefusal, correctionRefusal, dateRefusal, stateRefusal, undated, printOf, refusalOf, afterLine, tapeOf, after, ample}
 use Rattle.rules.specs.declared.Line.{Line}
 use Rattle.rules.specs.declared.Line.the-variants.{Dated, Listed, Moded, Leveled, Stepped, Traded, Cancelled, Erred, Corrected}
@@ -24,18 +24,13 @@ use Rattle.claim_daytape.proofs.Most.{print-by}
 
 -- ---- a chain of refusals that ends in 13
 
--- what a refusal's number is, 0 for none
-numbered : Option Refusal → ℕ
-numbered none = 0
-numbered (some r) = numberOf r
-
 -- a refusal of another number is not it, and what comes after it is
-passes : (b : Bool) (r : Refusal) (later : Option Refusal) → (numberOf r ≡ 13 → ⊥) → numbered (refuse b r later) ≡ 13 → numbered later ≡ 13
-unfolding refuse pick numbered
+passes : (b : Bool) (r : Refusal) (later : Option Refusal) → (numberOf r ≡ 13 → ⊥) → refusalNumber (refuse b r later) ≡ 13 → refusalNumber later ≡ 13
+unfolding refuse pick refusalNumber
 passes true r later k h = absurd (k h)
 passes false r later k h = h
 
-through : (day : Day) (name : List ℕ) (l : Line) (later : Option Refusal) → numbered (stateRefusal day name l later) ≡ 13 → numbered later ≡ 13
+through : (day : Day) (name : List ℕ) (l : Line) (later : Option Refusal) → refusalNumber (stateRefusal day name l later) ≡ 13 → refusalNumber later ≡ 13
 unfolding stateRefusal dateRefusal listingRefusal tradeRefusal correctionRefusal numberOf
 through day name (Dated n) later h = passes _ DateOrder later (λ k. omega arith) h
 through day name (Listed l) later h = passes _ SameName later (λ k. omega arith) (passes _ Name _ (λ k. omega arith) (passes _ InUse _ (λ k. omega arith) h))
@@ -48,14 +43,14 @@ through day name (Erred t) later h = passes _ Unmatched later (λ k. omega arith
 through day name (Corrected c) later h = passes _ Unmatched later (λ k. omega arith) (passes _ Conditions _ (λ k. omega arith) (passes _ NotEntered _ (λ k. omega arith) h))
 
 -- no other check has its number
-chain : (a b c d e : Bool) (day : Day) (name : List ℕ) (l : Line) → numbered (refuse a Shape (refuse b Kind (refuse c NoDate (refuse d Form (refuse e Value (stateRefusal day name l none)))))) ≡ 13 → ⊥
-unfolding numbered numberOf
+chain : (a b c d e : Bool) (day : Day) (name : List ℕ) (l : Line) → refusalNumber (refuse a Shape (refuse b Kind (refuse c NoDate (refuse d Form (refuse e Value (stateRefusal day name l none)))))) ≡ 13 → ⊥
+unfolding refusalNumber numberOf
 chain a b c d e day name l h =
     ends
     (through day name l none
     (passes e Value _ (λ k. omega arith) (passes d Form _ (λ k. omega arith) (passes c NoDate _ (λ k. omega arith) (passes b Kind _ (λ k. omega arith) (passes a Shape _ (λ k. omega arith) h))))))
   where
-    ends : numbered none ≡ 13 → ⊥
+    ends : refusalNumber none ≡ 13 → ⊥
     ends k = omega (arith, k)
 
 -- ---- one line, on a day that can be reached
@@ -89,9 +84,9 @@ module _ (day : Day) (line : List ℕ) (reached : Invariant day) where
     roomless = ap (λ (o : Option Refusal). refuse (not (isShaped line)) Shape (refuse (not (isKind (column 1 line))) Kind (refuse (not (eqb (column 1 line) 68) && undated day) NoDate o))) (open-ended (isFormed line) (isRanged line) refl refl)
 
     -- NO LINE IS REFUSED 13
-    pub never-short : refusalOf day line room ≡ some Room → ⊥
-    unfolding numbered numberOf
-    never-short h = chain _ _ _ _ _ day (nameColumns line) (lineOf line) (ap numbered (sym roomless ∙ h))
+    pub never-short : refusalNumber (refusalOf day line room) ≡ 13 → ⊥
+    unfolding refusalNumber numberOf
+    never-short h = chain _ _ _ _ _ day (nameColumns line) (lineOf line) (ap refusalNumber (sym roomless) ∙ h)
 
   -- more room changes nothing: refusal, print and state
   module _ (room : ℕ) (enough : longestPrint ≤ room) where

@@ -1,20 +1,25 @@
--- An outcome in document 01's numbers, and a call by its outcome. Assumes nothing.
+-- Plans and outcomes in document 01's numbers, what a call asks for, and a call by its outcome. Assumes nothing.
 use Prim.Native.Nat.{ℕ}
 use mathlib.Core.Path.{_≡_, refl, ap, _∙_}
+use mathlib.Core.Bool.{Bool, true, false}
 use mathlib.Core.List.{List}
+use lib.Dec.{ltb}
 use lib.ListN.{length}
+use Rattle.text.specs.Pick.{pick}
 use Rattle.text.specs.Put.{put}
 use Rattle.rules.specs.Refusal.{numberOf}
 use Rattle.rules.specs.declared.Refusal.{Refusal}
+use Rattle.rules.specs.declared.Refusal.the-variants.{Room}
 use Rattle.rules.specs.declared.Settings.{Settings}
 use Rattle.call_plan.specs.declared.Plan.{Plan}
 use Rattle.call_plan.specs.declared.Plan.the-variants.{Stop, Open, Enter, Change, Level, Step, Print, Cancel, Correct}
-use Rattle.call_print.specs.Print.{printedName, textOf, printOf}
+use Rattle.call_plan.specs.Plan.{planOf}
+use Rattle.call_print.specs.Print.{printedName, textOf, fittedOf, printOf}
 use Rattle.call_state.specs.After.{settingsAfter, tableAfter, namesAfter}
 use Rattle.engine.specs.declared.Outcome.{Outcome}
 use Rattle.engine.specs.declared.Outcome.the-variants.{Accepted, Refused}
 use Rattle.engine.specs.declared.Answer.{Answer}
-use Rattle.engine.specs.Taken.{asked, outcomeOf, answerOf, countOf, stopNumber, Taken}
+use Rattle.engine.specs.Taken.{asked, outcomeOf, answerOf, countOf, stopNumber, Asked, Taken}
 
 -- ---- as the code has it
 
@@ -63,6 +68,29 @@ count-by st names (Step n) = refl
 count-by st names (Print t) = refl
 count-by st names (Cancel t) = refl
 count-by st names (Correct c) = refl
+
+-- ---- what a call asks for
+
+-- a plan that does not fit is stopped by 13
+fitted-number : (b : Bool) (p : Plan) → stopNumber (pick b (Stop Room) p) ≡ pick b 13 (stopNumber p)
+unfolding pick stopNumber numberOf
+fitted-number true p = refl
+fitted-number false p = refl
+
+module _ (st : Settings) (table names line : List ℕ) (room : ℕ) where
+  asked-number : stopNumber (asked st table names line room) ≡ pick (ltb room (length (printOf st names (planOf st table names line)))) 13 (stopNumber (planOf st table names line))
+  unfolding asked fittedOf printOf
+  asked-number = fitted-number _ (planOf st table names line)
+
+  pub asked-as : (p : Plan) → p ≡ asked st table names line room → Asked st table names line room p
+  asked-as p e = record {
+    plan-is = e;
+    number-is = ap stopNumber e ∙ asked-number;
+    print-is = ap (printOf st names) e;
+    settings-are = ap (settingsAfter st) e;
+    table-is = ap (tableAfter table) e;
+    names-is = ap (namesAfter names line) e;
+  }
 
 -- ---- a call, whose numbers are those of its outcome
 module _ (st : Settings) (table names line tape table′ names′ tape′ : List ℕ) (r : Answer) where

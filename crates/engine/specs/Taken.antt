@@ -3,7 +3,9 @@ use Prim.Native.Nat.{ℕ}
 use mathlib.Core.Path.{_≡_}
 use mathlib.Core.Bool.{Bool, true, false}
 use mathlib.Core.List.{List}
+use lib.Dec.{ltb}
 use lib.ListN.{length}
+use Rattle.text.specs.Pick.{pick}
 use Rattle.text.specs.Put.{put}
 use Rattle.rules.specs.Line.{isShaped}
 use Rattle.rules.specs.declared.Settings.{Settings}
@@ -69,6 +71,15 @@ pub record Taken (st : Settings) (table names line tape table′ names′ tape�
   pub table-is : table′ ≡ tableAfter table (asked st table names line (length tape))
   pub names-is : names′ ≡ namesAfter names line (asked st table names line (length tape))
   pub tape-is : tape′ ≡ put (printOf st names (asked st table names line (length tape))) tape
+
+-- ---- what a call asks for that is lent a tape of `room` bytes: the plan, document 01's number of what stops it, 13 exactly where its print does not fit, and what it prints and leaves
+pub record Asked (st : Settings) (table names line : List ℕ) (room : ℕ) (p : Plan) : Type 0 where
+  pub plan-is : p ≡ asked st table names line room
+  pub number-is : stopNumber p ≡ pick (ltb room (length (printOf st names (planOf st table names line)))) 13 (stopNumber (planOf st table names line))
+  pub print-is : printOf st names p ≡ printOf st names (asked st table names line room)
+  pub settings-are : settingsAfter st p ≡ settingsAfter st (asked st table names line room)
+  pub table-is : tableAfter table p ≡ tableAfter table (asked st table names line room)
+  pub names-is : namesAfter names line p ≡ namesAfter names line (asked st table names line room)
 
 -- ---- a call for a trade alone: taken, as any call takes it, exactly if the call accepts a T line; or nothing is done
 

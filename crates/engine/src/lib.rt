@@ -14,7 +14,7 @@ ghost use mathlib.Core.Path.{_≡_};
 ghost use Rattle.rules.specs.Refusal.{numberOf};
 ghost use Rattle.rules.specs.Day.{opened};
 ghost use Rattle.engine.specs.Calls.{GoodCall};
-ghost use Rattle.engine.specs.Taken.{asked, outcomeOf, Taken, TradeTaken, answerOf, countOf};
+ghost use Rattle.engine.specs.Taken.{outcomeOf, Asked, Taken, TradeTaken, answerOf, countOf};
 
 // Accepted, with the length of its print, 0 where nothing prints; or refused.
 pub enum Outcome {
@@ -98,7 +98,7 @@ pub fn fresh() -> Settings
 
 // What a call asks for that is lent a tape of `room` bytes: its plan, or the refusal that stops it, 13 too.
 pub fn ask_line(st: Settings, table: &Table, names: &Names, line: &[u8], room: usize) -> Plan
-    ensures { λ r. ⌜ r ≡ asked st (now (table .entry)) (now (names .entry)) (now (line .entry)) room ⌝ }
+    ensures { λ r. ⌜ Asked st (now (table .entry)) (now (names .entry)) (now (line .entry)) room r ⌝ }
 {
     let p = call_plan::plan_line(st, table, names, line);
     call_print::fitted(st, names, line, p, room)

@@ -1,14 +1,18 @@
 -- What becomes of a line, and why, by the rules: the reasons (crate explain_reasons) of what prints, on the day that a call finds. Assumes nothing.
 use Prim.Native.Nat.{ℕ}
+use mathlib.Core.Path.{_≡_}
 use mathlib.Core.Bool.{Bool, true, false, _&&_}
 use mathlib.Core.List.{List}
 use mathlib.Core.Option.{Option, none, some}
+use lib.Dec.{leb}
+use lib.ListN.{length}
 use Rattle.text.specs.Pick.{pick}
 use Rattle.rules.specs.Columns.{column}
 use Rattle.rules.specs.Trade.{printsTrade}
 use Rattle.rules.specs.Correction.{printsCorrection, isMpv}
 use Rattle.rules.specs.Line.{isShaped, isKind, isFormed, isRanged, lineOf}
-use Rattle.rules.specs.Day.{Day, Call, securityAt, refusalOf}
+use Rattle.rules.specs.Refusal.{numberOf, refusalNumber}
+use Rattle.rules.specs.Day.{Day, Call, securityAt, refusalOf, tapeOf}
 use Rattle.rules.specs.declared.Mode.{Mode}
 use Rattle.rules.specs.declared.Listing.{Listing}
 use Rattle.rules.specs.declared.Trade.{Trade}
@@ -95,6 +99,14 @@ explainedBy day c = record { kind = kindIn (c .line); security = securityIn (c .
 
 -- ---- what a fate says
 
+-- document 01's number: 0 where the line is accepted, else that of its refusal
+unfoldable pub fateNumber : Fate → ℕ
+fateNumber (Refused r) = numberOf r
+fateNumber Accepted = 0
+fateNumber Announced = 0
+fateNumber LeftOff = 0
+fateNumber (Printed r) = 0
+
 -- something is on the tape
 unfoldable pub isOnTape : Fate → Bool
 isOnTape (Refused r) = false
@@ -110,3 +122,12 @@ isReasoned Accepted = true
 isReasoned Announced = true
 isReasoned LeftOff = true
 isReasoned (Printed r) = somePrint (r .prints)
+
+-- ---- the promise of `explain_line`: the explanation of a call, and what it says: document 01's number by the rules' refusal, the line's kind and security, on the tape exactly if the call prints, and a reason for every print
+pub record Explained (day : Day) (c : Call) (r : Explanation) : Type 0 where
+  pub answer-is : r ≡ explainedBy day c
+  pub number-is : fateNumber (r .fate) ≡ refusalNumber (refusalOf day (c .line) (c .room))
+  pub kind-is : r .kind ≡ kindIn (c .line)
+  pub security-is : r .security ≡ securityIn (c .line)
+  pub on-tape-is : isOnTape (r .fate) ≡ leb 1 (length (tapeOf day c))
+  pub reasoned-is : isReasoned (r .fate) ≡ true

@@ -20,7 +20,7 @@ ghost use Rattle.rules.specs.Sizes.{securityPlaces};
 ghost use Rattle.call_table.specs.Rows.{row, dayOf};
 ghost use Rattle.call_plan.specs.Plan.{SoundTrade, SoundCorrection, SoundLine};
 ghost use Rattle.claim_calls.specs.Held.{stopOf};
-ghost use Rattle.explain_fate.specs.Explained.{securityOf, kindIn, tradeFate, cancelFate, correctionFate, stepFate, fateAt, explainedBy};
+ghost use Rattle.explain_fate.specs.Explained.{securityOf, kindIn, tradeFate, cancelFate, correctionFate, stepFate, fateAt, Explained};
 ghost use Rattle.explain_fate.specs.Read.{readSecurity, readFate, fateIf, SoundReading};
 
 // Why a line prints, why its price is in full, why its volume is shown.
@@ -220,7 +220,7 @@ pub fn explain_line(
     line: &[u8],
     room: usize,
 ) -> Explanation
-    ensures { λ r. ⌜ r ≡ explainedBy (dayOf st (now (table .entry)) (now (names .entry))) (record { line = now (line .entry); room = room }) ⌝ }
+    ensures { λ r. ⌜ Explained (dayOf st (now (table .entry)) (now (names .entry))) (record { line = now (line .entry); room = room }) r ⌝ }
 {
     // as slices the tables tell their sizes
     let _rows = &table[..];

@@ -21,9 +21,10 @@ use Rattle.engine.specs.Taken.{Taken, answerOf, countOf}
 use Rattle.reader.specs.declared.ReadAnswer.{ReadAnswer}
 use Rattle.reader.specs.declared.ReadAnswer.the-variants as read
 use Rattle.reader.specs.Read.{readAt}
+use Rattle.reader.specs.Told.{answerNumber}
 use Rattle.read_numbers.specs.Numbers.{numbersAt}
 use Rattle.exports.specs.Numbers.{numbersOf, settingsOf, leftBy, TakenNumbers}
-use Rattle.exports.specs.Reading.{readAnswer, ReadNumbers}
+use Rattle.exports.specs.Reading.{ReadNumbers}
 
 pub settings-are : (numbers : List ℕ) (m : Mode) → m ≡ modeOf (getD numbers 1 0) → _≡_ {A = Settings} (record { date = getD numbers 0 0; mode = m; level = getD numbers 2 0; minimum = getD numbers 3 0 }) (settingsOf numbers)
 settings-are numbers m e = rw e
@@ -61,8 +62,8 @@ shown-numbers numbers table names line room st e numbers′ g f h =
 
 -- ---- the reader
 
-pub read-refused : (r : ReadAnswer) (x : Refusal) (n : ℕ) → r ≡ read.Refused x → n ≡ numberOf x → n ≡ readAnswer r
+pub read-refused : (r : ReadAnswer) (x : Refusal) (n : ℕ) → r ≡ read.Refused x → n ≡ numberOf x → n ≡ answerNumber r
 read-refused r x n e f = rw e f
 
-pub read-numbers : (tape : List ℕ) (place : ℕ) (r : ReadAnswer) (numbers′ : List ℕ) (answer : ℕ) → r ≡ readAt tape place → numbers′ ≡ numbersAt tape place → answer ≡ readAnswer r → ReadNumbers tape place numbers′ answer
+pub read-numbers : (tape : List ℕ) (place : ℕ) (r : ReadAnswer) (numbers′ : List ℕ) (answer : ℕ) → r ≡ readAt tape place → numbers′ ≡ numbersAt tape place → answer ≡ answerNumber r → ReadNumbers tape place numbers′ answer
 read-numbers tape place r numbers′ answer e f g = record { numbers-are = f; answer-is = rw (← e) g }

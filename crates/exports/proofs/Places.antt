@@ -8,14 +8,14 @@ use Rattle.rules.specs.Refusal.{numberOf}
 use Rattle.reader.specs.declared.ReadAnswer.{ReadAnswer}
 use Rattle.reader.specs.declared.ReadAnswer.the-variants.{Announcement, Trade, Cancel, Error, Correction, Refused}
 use Rattle.reader.specs.Read.{readAt}
-use Rattle.reader.specs.Told.{lengthOf, nameFrom, nameLength, factIn}
+use Rattle.reader.specs.Told.{answerNumber, lengthOf, nameFrom, nameLength, factIn}
 use Rattle.read_numbers.specs.Numbers.{factNumbers, numbersOf, numbersAt}
-use Rattle.read_numbers.proofs.Refusals.{refused-by}
-use Rattle.exports.specs.Reading.{readAnswer, ReadNumbers, Unread}
+use Rattle.reader.proofs.Numbers.{refused-by}
+use Rattle.exports.specs.Reading.{ReadNumbers, Unread}
 
 module _ (tape : List ℕ) (place : ℕ) where
   -- by the answer r
-  unread-by : (r : ReadAnswer) → readAt tape place ≡ r → 1 ≤ readAnswer r → Unread tape place (numbersOf (drop place tape) r) (readAnswer r)
+  unread-by : (r : ReadAnswer) → readAt tape place ≡ r → 1 ≤ answerNumber r → Unread tape place (numbersOf (drop place tape) r) (answerNumber r)
   unfolding numberOf numbersOf lengthOf nameFrom nameLength factIn factNumbers
   unread-by (Announcement n) e h = absurd (omega arith)
   unread-by (Trade x) e h = absurd (omega arith)
@@ -23,7 +23,7 @@ module _ (tape : List ℕ) (place : ℕ) where
   unread-by (Error x) e h = absurd (omega arith)
   unread-by (Correction x) e h = absurd (omega arith)
   unread-by (Refused r) e h = record {
-    answer-is = ap numberOf (refused-by tape place r e);
+    answer-is = refused-by tape place r e;
     numbers-are = refl;
     facts-are = ap (factIn (drop place tape)) e;
   }

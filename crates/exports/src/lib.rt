@@ -13,7 +13,8 @@ ghost use Rattle.rules.specs.Line.{modeOf};
 ghost use Rattle.call_table.specs.Rows.{dayOf};
 ghost use Rattle.facts_numbers.specs.Numbers.{entryNumbers};
 ghost use Rattle.exports.specs.Numbers.{letterOf, numbersOf, settingsOf, leftBy, TakenNumbers};
-ghost use Rattle.exports.specs.Reading.{readAnswer, ReadNumbers};
+ghost use Rattle.reader.specs.Told.{answerNumber};
+ghost use Rattle.exports.specs.Reading.{ReadNumbers};
 
 // ---- settings as four numbers
 
@@ -72,7 +73,7 @@ fn leave(numbers: &mut [u64; 4], o: Outcome, st: Settings)
 }
 
 fn read_answer(r: ReadAnswer) -> u64
-    ensures { λ n. ⌜ n ≡ readAnswer r ⌝ }
+    ensures { λ n. ⌜ n ≡ answerNumber r ⌝ }
 {
     match r {
         ReadAnswer::Announcement(_) => 0,

@@ -32,7 +32,7 @@ use Rattle.read_name.specs.declared.AgainAnswer.the-variants.{Again, Not
 use Rattle.read_name.proofs.Count.{count-within, name-within}
 use Rattle.read_name.proofs.Ends.{ends-room, before-cut}
 
--- ---- how long a name is: at most 21 bytes
+-- ---- how long a name is: 1 to 21 bytes
 
 class-most : (c : ℕ) (e : List ℕ) → isLetter c ≡ true → member e classEnds ≡ true → leb (length (112 ∷ c ∷ e)) 6 ≡ true
 unfolding each
@@ -96,6 +96,18 @@ root-most : (s : List ℕ) → lawfulRoot s ≡ true → length s ≤ 6
 unfolding lawfulRoot between
 root-most s h = leb-true (length s) 6 (and-right (leb 1 (length s)) (leb (length s) 6) (and-left (leb 1 (length s) && leb (length s) 6) (not (isReserved s)) h))
 
+root-some : (s : List ℕ) → lawfulRoot s ≡ true → 1 ≤ length s
+unfolding lawfulRoot between
+root-some s h = leb-true 1 (length s) (and-left (leb 1 (length s)) (leb (length s) 6) (and-left (leb 1 (length s) && leb (length s) 6) (not (isReserved s)) h))
+
+name-some : (t : Bool) (network : ℕ) (name : List ℕ) → nameOn t network name ≡ true → 1 ≤ length name
+unfolding nameOn
+name-some t network name h =
+    let n = countOf isLetter 7 name in
+    let w : n ≤ length name = count-within isLetter 7 name in
+    let a = root-some (take n name) (and-left (lawfulRoot (take n name)) (endsLawfully t (appendageOf network) (drop n name)) h) in
+    omega (arith, length-take-le n name w)
+
 pub name-most : (t : Bool) (network : ℕ) (name : List ℕ) → nameOn t network name ≡ true → length name ≤ 21
 unfolding nameOn
 name-most t network name h =
@@ -110,6 +122,7 @@ name-most t network name h =
 record Parts (t : Bool) (name : List ℕ) (used : ℕ) (x : NameRead) : Type 0 where
   used-is : x .used ≡ used
   length-is : x .length ≡ length name
+  some : 1 ≤ length name
   short : length name ≤ 21
 
 never : _≡_ {A = ℕ} 0 1 → ⊥
@@ -121,8 +134,8 @@ parts t name used NoAfter x h = absurd (never (cc))
 parts t name used (After letters) x h = go (nameOn t 65 name) (nameOn t 66 name) refl refl h
   where
     go : (a b : Bool) → nameOn t 65 name ≡ a → nameOn t 66 name ≡ b → pick (a || b) (Named (record { length = length name; used = used; letters = letters; a = a; b = b })) NoName ≡ Named x → Parts t name used x
-    go true b e f k = record { used-is = cc; length-is = cc; short = name-most t 65 name e }
-    go false true e f k = record { used-is = cc; length-is = cc; short = name-most t 66 name f }
+    go true b e f k = record { used-is = cc; length-is = cc; some = name-some t 65 name e; short = name-most t 65 name e }
+    go false true e f k = record { used-is = cc; length-is = cc; some = name-some t 66 name f; short = name-most t 66 name f }
     go false false e f k = absurd (never (cc))
 
 run-of : List ℕ → List ℕ
@@ -146,6 +159,9 @@ module _ (t : Bool) (s : List ℕ) (x : NameRead) (r : NameAnswer) (e : r ≡ he
       let k = nameCount (run-of s) in
       let w : k ≤ length (run-of s) = name-within (run-of s) in
       omega (arith, head-parts .used-is, head-parts .length-is, length-take-le k (run-of s) w)
+
+  pub head-some : 1 ≤ x .length
+  head-some = rw (head-parts .length-is) (head-parts .some)
 
   pub head-short : x .length ≤ 21
   head-short = rw (head-parts .length-is) (head-parts .short)

@@ -19,8 +19,8 @@ ghost use Rattle.rules.specs.Line.{alike};
 ghost use Rattle.read_name.specs.Head.{headAt, againAt};
 ghost use Rattle.read_side.specs.Side.{sideAt};
 ghost use Rattle.read_side.specs.declared.SideAnswer.the-variants.{Sided};
-ghost use Rattle.reader.specs.Read.{tradeHead, tradeAt, endAt, endedBy, cancelHead, cancelAt, amended, correctedBy, secondSide, secondHead, secondAt, correctionHead, correctionAt, announcedBy, printAt, readAt};
-ghost use Rattle.reader.specs.Told.{lengthOf, nameFrom, nameLength, nameAt};
+ghost use Rattle.reader.specs.Read.{tradeHead, tradeAt, endAt, endedBy, cancelHead, cancelAt, amended, correctedBy, secondSide, secondHead, secondAt, correctionHead, correctionAt, announcedBy, printAt};
+ghost use Rattle.reader.specs.Told.{lengthOf, nameFrom, nameLength, nameAt, ReadIs};
 
 // A trade, cancel or error: the print's length, where in it its name begins and ends, and the side shown (its letters as a
 // print shows them: next day as M, cash as K).
@@ -308,9 +308,9 @@ fn print_at(s: &[u8]) -> ReadAnswer
     trade_at(s)
 }
 
-// The print at a place of a tape; past the end there is none.
+// The print at a place of a tape; past the end there is none (14).
 pub fn read_at(tape: &[u8], place: usize) -> ReadAnswer
-    ensures { λ r. ⌜ r ≡ readAt (now (tape .entry)) place ⌝ }
+    ensures { λ r. ⌜ ReadIs (now (tape .entry)) place r ⌝ }
 {
     if tape.len() <= place {
         return ReadAnswer::Refused(Refusal::NoPrint);

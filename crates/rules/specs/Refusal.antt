@@ -25,6 +25,11 @@ numberOf DateOrder = 12
 numberOf Room = 13
 numberOf NoPrint = 14
 
+-- a line's answer by number: 0 where nothing refuses it
+unfoldable pub refusalNumber : Option Refusal → ℕ
+refusalNumber none = 0
+refusalNumber (some r) = numberOf r
+
 -- the refusal where the test holds, else what comes after it
 unfoldable pub refuse : Bool → Refusal → Option Refusal → Option Refusal
 refuse test r later = pick test (some r) later

@@ -1,4 +1,5 @@
 use Rattle.call_print.proofs.Sound.{sound-asked}
+use Rattle.engine.proofs.Numbers.{asked-as}
 use Rattle.engine.proofs.Steps.{asked-for}
 use borrow.Author.Needs.{needs}
 use Rattle.engine.proofs.ask_line.Statement.{statement}
@@ -11,7 +12,7 @@ fitted-requires : tie.Need-fitted-requires
 fitted-requires c κs = search sound-asked
 
 returns : tie.Need-returns
-returns c = search asked-for
+returns c = search (asked-as, asked-for)
 
 pub ask-line-spec : {M : Type 1} → statement M
 ask-line-spec = tie.close (tie.spec plan-line-requires fitted-requires returns)

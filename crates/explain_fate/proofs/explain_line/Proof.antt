@@ -1,4 +1,5 @@
 use Rattle.explain_fate.proofs.Agree.{sound-reading, told}
+use Rattle.explain_fate.proofs.Numbers.{explained-as}
 use borrow.Author.Needs.{needs}
 use Rattle.explain_fate.proofs.explain_line.Statement.{statement}
 use Rattle.explain_fate.proofs.explain_line.Tie as tie
@@ -22,7 +23,7 @@ fate-of-requires : tie.Need-fate-of-requires
 fate-of-requires c κs = search needs
 
 returns : tie.Need-returns
-returns c = search told depth 40 fits 10000
+returns c = search (explained-as, told) depth 40 fits 10000
 
 pub explain-line-spec : {M : Type 1} → statement M
 explain-line-spec =
