@@ -21,11 +21,11 @@ unfolding factsText lineOf
 entry-text none l = refl
 entry-text (some f) l = refl
 
-text-on : (day : Day) (l : List ℕ) (ls : List (List ℕ)) → shownText day (l ∷ ls) ≡ lineOf (shownBy day (ample l)) ++ shownText (after day (ample l)) ls
+pub text-on : (day : Day) (l : List ℕ) (ls : List (List ℕ)) → shownText day (l ∷ ls) ≡ lineOf (shownBy day (ample l)) ++ shownText (after day (ample l)) ls
 unfolding shownText callsOf shown
 text-on day l ls = entry-text (shownBy day (ample l)) (shown (after day (ample l)) (callsOf ls))
 
-text-none : (day : Day) → shownText day [] ≡ []
+pub text-none : (day : Day) → shownText day [] ≡ []
 unfolding shownText callsOf shown factsText
 text-none day = refl
 
