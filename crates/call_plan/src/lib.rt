@@ -202,7 +202,7 @@ fn listing_plan(table: &Table, names: &Names, name: &[u8], l: Listing) -> Plan
     Plan::Enter(place, entered_as(l))
 }
 
-pub fn print_plan(st: Settings, s: Security, t: Trade) -> TradePlan
+fn print_plan(st: Settings, s: Security, t: Trade) -> TradePlan
     requires { ⌜ SoundTrade t ⌝ }
     ensures { λ r. ⌜ r ≡ printPlan st s t ⌝ }
 {
@@ -228,7 +228,7 @@ pub fn print_plan(st: Settings, s: Security, t: Trade) -> TradePlan
     }
 }
 
-pub fn is_lawful(s: Security, t: Trade) -> bool
+fn is_lawful(s: Security, t: Trade) -> bool
     ensures { λ r. ⌜ r ≡ (t .lawful && onNetwork (s .issue .network) (t .side .letters)) ⌝ }
 {
     let x = t.side;

@@ -20,7 +20,7 @@ ghost use Rattle.print_price.specs.Sound.{Sound};
 // ---- what prints
 
 // The prices differ by value.
-pub fn prices_differ(x: Side, y: Side) -> bool
+fn prices_differ(x: Side, y: Side) -> bool
     requires { ⌜ Sound (x .price) × Sound (y .price) ⌝ }
     ensures { λ r. ⌜ r ≡ pricesDiffer x y ⌝ }
 {

@@ -225,7 +225,7 @@ fn explains_shares(network: u64, unit: u64, n: u64) -> bool
 }
 
 // Some volume prints so on the network, with the unit of trading.
-pub fn explains(network: u64, unit: u64, v: Volume) -> bool
+fn explains(network: u64, unit: u64, v: Volume) -> bool
     requires { ⌜ 1 ≤ unit ⌝ }
     ensures { λ r. ⌜ r ≡ explains network unit v ⌝ }
 {
