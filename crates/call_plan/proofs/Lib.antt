@@ -1,2 +1,2 @@
 pub mod Plans
-pub mod Ranged
+pub mod Read

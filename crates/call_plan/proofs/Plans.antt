@@ -30,7 +30,7 @@ use Rattle.call_plan.specs.declared.CancelPlan.{CancelPlan}
 use Rattle.call_plan.specs.declared.CorrectionPlan.{CorrectionPlan}
 use Rattle.call_plan.specs.declared.Plan.{Plan}
 use Rattle.call_plan.specs.declared.Plan.the-variants.{Stop, Open, Enter, Change, Level, Step, Print, Cancel, Correct}
-use Rattle.call_plan.specs.Plan.{datePlan, listingPlan, printPlan, tradePlan, cancelOf, cancelPlan, correctionOf, correctionPlan, linePlan, SoundListing, SoundTrade, SoundCorrection, SoundLine}
+use Rattle.call_plan.specs.Plan.{datePlan, listingPlan, printPlan, tradePlan, cancelOf, cancelPlan, correctionOf, correctionPlan, linePlan}
 use Rattle.rules.specs.declared.PriceForm.{PriceForm}
 
 -- ---- a name among those of entered securities
@@ -171,23 +171,3 @@ module _ (st : Settings) (table names name : List ℕ) (l : Line) where
   line-stepped n e = rw e
 
 pub ruleset kinds = (line-dated, line-listed, line-traded, line-moded, line-leveled, line-stepped, line-cancelled, line-erred, line-corrected)
-
-pub sound-listed : (l : Line) (n : Listing) → SoundLine l → l ≡ Listed n → SoundListing n
-unfolding SoundLine
-sound-listed l n h e = rw e at h
-
-pub sound-cancelled : (l : Line) (t : Trade) → SoundLine l → l ≡ Cancelled t → SoundTrade t
-unfolding SoundLine
-sound-cancelled l t h e = rw e at h
-
-pub sound-erred : (l : Line) (t : Trade) → SoundLine l → l ≡ Erred t → SoundTrade t
-unfolding SoundLine
-sound-erred l t h e = rw e at h
-
-pub sound-corrected : (l : Line) (c : Correction) → SoundLine l → l ≡ Corrected c → SoundCorrection c
-unfolding SoundLine
-sound-corrected l c h e = rw e at h
-
-pub sound-traded : (l : Line) (t : Trade) → SoundLine l → l ≡ Traded t → SoundTrade t
-unfolding SoundLine
-sound-traded l t h e = rw e at h

@@ -1,5 +1,5 @@
 -- What a line asks for, by the state that settings and tables hold: the first refusal of 1 to 12 that stops it, or what it prints and stores. Assumes nothing.
-use Prim.Native.Nat.{ℕ, _-_, _≤_, _<_}
+use Prim.Native.Nat.{ℕ, _-_, _<_}
 use mathlib.Core.Bool.{Bool, true, false, _&&_, _||_, not}
 use mathlib.Core.List.{List, []}
 use lib.Dec.{leb, ltb, eqb}
@@ -22,7 +22,6 @@ use Rattle.rules.specs.declared.Refusal.the-variants.{Shape, Kind, NoDate, Form
 use Rattle.rules.specs.declared.Settings.{Settings}
 use Rattle.rules.specs.declared.Security.{Security}
 use Rattle.rules.specs.Sizes.{securityPlaces}
-use Rattle.print_price.specs.Sound.{Sound}
 use Rattle.call_table.specs.Rows.{row, nameOf, rowsFrom, namesFrom}
 use Rattle.call_plan.specs.declared.TradePlan.{TradePlan}
 use Rattle.call_plan.specs.declared.CancelPlan.{CancelPlan}
@@ -128,34 +127,3 @@ planOf st table names line =
     (pick (not (isKind (column 1 line))) (Stop Kind)
     (pick (not (eqb (column 1 line) 68) && eqb (st .date) 0) (Stop NoDate)
     (readPlan st table names line)))
-
--- ---- what a line owes that is within its values
-
-pub record SoundTrade (t : Trade) : Type 0 where
-  pub low : 1 ≤ t .security
-  pub high : t .security ≤ securityPlaces
-  pub price : Sound (t .side .price)
-  pub previous : t .side .previous .d ≤ 8
-
-pub record SoundCorrection (c : Correction) : Type 0 where
-  pub low : 1 ≤ c .security
-  pub high : c .security ≤ securityPlaces
-  pub original : Sound (c .original .price)
-  pub original-previous : c .original .previous .d ≤ 8
-  pub correcting : Sound (c .correcting .price)
-  pub correcting-previous : c .correcting .previous .d ≤ 8
-
-pub record SoundListing (l : Listing) : Type 0 where
-  pub low : 1 ≤ l .number
-  pub high : l .number ≤ securityPlaces
-
-unfoldable pub SoundLine : Line → Type 0
-SoundLine (Dated n) = Unit {0}
-SoundLine (Listed l) = SoundListing l
-SoundLine (Moded m) = Unit {0}
-SoundLine (Leveled n) = Unit {0}
-SoundLine (Stepped n) = Unit {0}
-SoundLine (Traded t) = SoundTrade t
-SoundLine (Cancelled t) = SoundTrade t
-SoundLine (Erred t) = SoundTrade t
-SoundLine (Corrected c) = SoundCorrection c

@@ -30,7 +30,8 @@ ghost use Rattle.rules.specs.Names.{sameName};
 ghost use Rattle.rules.specs.Conditions.{onNetwork};
 ghost use Rattle.rules.specs.Day.{isEntered, takenName, entered};
 ghost use Rattle.call_table.specs.Rows.{row, nameOf, rowsFrom, namesFrom};
-ghost use Rattle.call_plan.specs.Plan.{datePlan, listingPlan, printPlan, tradePlan, cancelOf, cancelPlan, correctionOf, correctionPlan, linePlan, readPlan, planOf, SoundListing, SoundTrade, SoundCorrection, SoundLine};
+ghost use Rattle.call_plan.specs.Plan.{datePlan, listingPlan, printPlan, tradePlan, cancelOf, cancelPlan, correctionOf, correctionPlan, linePlan, readPlan, planOf};
+ghost use Rattle.line_owed.specs.Owed.{OwedListing, OwedTrade, OwedCorrection, OwedLine};
 
 // What an accepted trade prints, and the security after it.
 pub struct TradePlan {
@@ -185,7 +186,7 @@ fn entered_as(l: Listing) -> Security
 }
 
 fn listing_plan(table: &Table, names: &Names, name: &[u8], l: Listing) -> Plan
-    requires { ⌜ SoundListing l × (length (now name) ≡ nameWidth) ⌝ }
+    requires { ⌜ OwedListing l × (length (now name) ≡ nameWidth) ⌝ }
     ensures { λ r. ⌜ r ≡ listingPlan (now (table .entry)) (now (names .entry)) (now (name .entry)) l ⌝ }
 {
     let place = (l.number - 1) as usize;
@@ -203,7 +204,7 @@ fn listing_plan(table: &Table, names: &Names, name: &[u8], l: Listing) -> Plan
 }
 
 fn print_plan(st: Settings, s: Security, t: Trade) -> TradePlan
-    requires { ⌜ SoundTrade t ⌝ }
+    requires { ⌜ OwedTrade t ⌝ }
     ensures { λ r. ⌜ r ≡ printPlan st s t ⌝ }
 {
     let x = t.side;
@@ -240,7 +241,7 @@ fn is_lawful(s: Security, t: Trade) -> bool
 }
 
 fn trade_plan(st: Settings, s: Security, t: Trade) -> Plan
-    requires { ⌜ SoundTrade t ⌝ }
+    requires { ⌜ OwedTrade t ⌝ }
     ensures { λ r. ⌜ r ≡ tradePlan st s t ⌝ }
 {
     if !decide_letters::is_entered(s) {
@@ -256,7 +257,7 @@ fn trade_plan(st: Settings, s: Security, t: Trade) -> Plan
 }
 
 fn trade_at(st: Settings, table: &Table, t: Trade) -> Plan
-    requires { ⌜ SoundTrade t ⌝ }
+    requires { ⌜ OwedTrade t ⌝ }
     ensures { λ r. ⌜ r ≡ tradePlan st (row (now (table .entry)) (t .security - 1)) t ⌝ }
 {
     let place = (t.security - 1) as usize;
@@ -265,7 +266,7 @@ fn trade_at(st: Settings, table: &Table, t: Trade) -> Plan
 }
 
 fn cancel_of(error: bool, st: Settings, s: Security, t: Trade) -> CancelPlan
-    requires { ⌜ SoundTrade t ⌝ }
+    requires { ⌜ OwedTrade t ⌝ }
     ensures { λ r. ⌜ r ≡ cancelOf error st s t ⌝ }
 {
     let x = t.side;
@@ -281,7 +282,7 @@ fn cancel_of(error: bool, st: Settings, s: Security, t: Trade) -> CancelPlan
 }
 
 fn cancel_plan(error: bool, st: Settings, s: Security, t: Trade) -> Plan
-    requires { ⌜ SoundTrade t ⌝ }
+    requires { ⌜ OwedTrade t ⌝ }
     ensures { λ r. ⌜ r ≡ cancelPlan error st s t ⌝ }
 {
     if !decide_letters::is_entered(s) {
@@ -297,7 +298,7 @@ fn cancel_plan(error: bool, st: Settings, s: Security, t: Trade) -> Plan
 }
 
 fn cancel_at(error: bool, st: Settings, table: &Table, t: Trade) -> Plan
-    requires { ⌜ SoundTrade t ⌝ }
+    requires { ⌜ OwedTrade t ⌝ }
     ensures { λ r. ⌜ r ≡ cancelPlan error st (row (now (table .entry)) (t .security - 1)) t ⌝ }
 {
     let place = (t.security - 1) as usize;
@@ -306,7 +307,7 @@ fn cancel_at(error: bool, st: Settings, table: &Table, t: Trade) -> Plan
 }
 
 fn correction_of(st: Settings, s: Security, c: Correction) -> CorrectionPlan
-    requires { ⌜ SoundCorrection c ⌝ }
+    requires { ⌜ OwedCorrection c ⌝ }
     ensures { λ r. ⌜ r ≡ correctionOf st s c ⌝ }
 {
     let x = c.original;
@@ -342,7 +343,7 @@ fn are_lawful(s: Security, c: Correction) -> bool
 }
 
 fn correction_plan(st: Settings, s: Security, c: Correction) -> Plan
-    requires { ⌜ SoundCorrection c ⌝ }
+    requires { ⌜ OwedCorrection c ⌝ }
     ensures { λ r. ⌜ r ≡ correctionPlan st s c ⌝ }
 {
     if !decide_letters::is_entered(s) {
@@ -358,7 +359,7 @@ fn correction_plan(st: Settings, s: Security, c: Correction) -> Plan
 }
 
 fn correction_at(st: Settings, table: &Table, c: Correction) -> Plan
-    requires { ⌜ SoundCorrection c ⌝ }
+    requires { ⌜ OwedCorrection c ⌝ }
     ensures { λ r. ⌜ r ≡ correctionPlan st (row (now (table .entry)) (c .security - 1)) c ⌝ }
 {
     let place = (c.security - 1) as usize;
@@ -367,7 +368,7 @@ fn correction_at(st: Settings, table: &Table, c: Correction) -> Plan
 }
 
 fn line_plan(st: Settings, table: &Table, names: &Names, name: &[u8], l: Line) -> Plan
-    requires { ⌜ SoundLine l × (length (now name) ≡ nameWidth) ⌝ }
+    requires { ⌜ OwedLine l × (length (now name) ≡ nameWidth) ⌝ }
     ensures { λ r. ⌜ r ≡ linePlan st (now (table .entry)) (now (names .entry)) (now (name .entry)) l ⌝ }
 {
     match l {

@@ -2,4 +2,3 @@ pub mod Arms
 pub mod Sound
 pub mod Room
 pub mod Most
-pub mod Columns

@@ -6,9 +6,6 @@ use mathlib.Core.Path.{_≡_, refl, sym}
 use mathlib.Core.Bool.{Bool, not}
 use mathlib.Core.List.{List, []}
 use lib.ListN.{length, length-append}
-use mir.Val.{Val}
-use denote.Laws.{Is}
-use denote.Enum.Declared.{row}
 use Rattle.text.specs.Bytes.{bytes}
 use Rattle.text.specs.Pick.{pick, opt}
 use Rattle.text.specs.Decimal.{decimal}
@@ -24,9 +21,9 @@ use Rattle.rules.specs.declared.Mode.the-variants.{Normal, Dvd, Rpo, Mpv}
 use Rattle.rules.specs.declared.Side.{Side}
 use Rattle.rules.specs.declared.Settings.{Settings}
 use Rattle.rules.specs.Sizes.{longestPrint}
-use Rattle.print_side.proofs.Short.{Short, side-short}
+use Rattle.line_owed.specs.Owed.{OwedSide}
+use Rattle.print_side.proofs.Short.{side-short}
 use Rattle.print_amendment.proofs.Amended.{opening-length}
-use Rattle.call_plan.proofs.Plan.{the-type}
 use Rattle.call_plan.specs.declared.TradePlan.{TradePlan}
 use Rattle.call_plan.specs.declared.CancelPlan.{CancelPlan}
 use Rattle.call_plan.specs.declared.CorrectionPlan.{CorrectionPlan}
@@ -42,7 +39,7 @@ pair-most : (x : Side) → length (endPair x) ≤ 2
 unfolding endPair
 pair-most x = opt-most (not (x .letters .g)) (bytes ">>") 2 (omega arith)
 
-module _ (x : Side) (h : Short x) (name : List ℕ) (l : length name ≤ 22) (network unit : ℕ) (form : PriceForm) (shows : Bool) where
+module _ (x : Side) (h : OwedSide x) (name : List ℕ) (l : length name ≤ 22) (network unit : ℕ) (form : PriceForm) (shows : Bool) where
   side-most : length (sideText name network unit form shows x) ≤ 183
   side-most = omega (arith, side-short x h name network unit form shows)
 
@@ -53,7 +50,7 @@ module _ (x : Side) (h : Short x) (name : List ℕ) (l : length name ≤ 22) (ne
   unfolding cancelText
   cancel-most opening six = simp length-append (omega (arith, six, side-most, pair-most x))
 
-module _ (x y : Side) (h : Short x) (k : Short y) (name : List ℕ) (l : length name ≤ 22) (network unit : ℕ) (form : PriceForm) (shows : Bool) where
+module _ (x y : Side) (h : OwedSide x) (k : OwedSide y) (name : List ℕ) (l : length name ≤ 22) (network unit : ℕ) (form : PriceForm) (shows : Bool) where
   both-most : length (correctionText name network unit form shows x y) ≤ longestPrint
   unfolding correctionText
   both-most =
@@ -105,27 +102,20 @@ step-most Dvd n h = omega arith
 step-most Rpo n h = omega arith
 step-most Mpv n h = minimum-most n h
 
--- ---- a sound plan whose numbers the machine holds
+-- ---- a sound plan
 
-module _ (st : Settings) (name line : List ℕ) (vs : List Val) (set : st .minimum < 10 ^ 20) (l : length name ≤ 22) where
-  text-most : (p : Plan) → Is (row the-type) p vs → SoundPlan line p → length (textOf st name p) ≤ longestPrint
+module _ (st : Settings) (name line : List ℕ) (set : st .minimum < 10 ^ 20) (l : length name ≤ 22) where
+  text-most : (p : Plan) → SoundPlan line p → length (textOf st name p) ≤ longestPrint
   unfolding textOf SoundPlan printText cancelled corrected
-  text-most (Stop r) g h = omega arith
-  text-most (Open n) g h = omega arith
-  text-most (Enter i s) g h = omega arith
-  text-most (Change m) g h = mode-most m (st .minimum) set
-  text-most (Level n) g h = level-most n (omega (arith, g .1))
-  text-most (Step n) g h = step-most (st .mode) n (omega (arith, g .1))
-  text-most (Print t) g h =
-      let x : Short (t .side) = record { volume-is = omega (arith, g .1); price-is = omega (arith, g .1); decimals-are = h .stands .sound .decimals; days-are = omega (arith, g .1); previous-is = omega (arith, g .1); previous-decimals = h .stands .previous-is } in
-      trade-most (t .side) x name l _ _ _ _ (t .prints)
-  text-most (Cancel t) g h =
-      let x : Short (t .side) = record { volume-is = omega (arith, g .1); price-is = omega (arith, g .1); decimals-are = h .stands .sound .decimals; days-are = omega (arith, g .1); previous-is = omega (arith, g .1); previous-decimals = h .stands .previous-is } in
-      cancel-most (t .side) x name l _ _ _ _ _ (sym (opening-length (t .error)))
-  text-most (Correct c) g h =
-      let x : Short (c .original) = record { volume-is = omega (arith, g .1); price-is = omega (arith, g .1); decimals-are = h .original-stands .sound .decimals; days-are = omega (arith, g .1); previous-is = omega (arith, g .1); previous-decimals = h .original-stands .previous-is } in
-      let y : Short (c .correcting) = record { volume-is = omega (arith, g .1); price-is = omega (arith, g .1); decimals-are = h .correcting-stands .sound .decimals; days-are = omega (arith, g .1); previous-is = omega (arith, g .1); previous-decimals = h .correcting-stands .previous-is } in
-      correction-most (c .original) (c .correcting) x y name l _ _ _ _ (c .prints)
+  text-most (Stop r) h = omega arith
+  text-most (Open n) h = omega arith
+  text-most (Enter i s) h = omega arith
+  text-most (Change m) h = mode-most m (st .minimum) set
+  text-most (Level n) h = level-most n (omega arith)
+  text-most (Step n) h = step-most (st .mode) n (omega arith)
+  text-most (Print t) h = trade-most (t .side) (h .stands .owed) name l _ _ _ _ (t .prints)
+  text-most (Cancel t) h = cancel-most (t .side) (h .stands .owed) name l _ _ _ _ _ (sym (opening-length (t .error)))
+  text-most (Correct c) h = correction-most (c .original) (c .correcting) (h .original-stands .owed) (h .correcting-stands .owed) name l _ _ _ _ (c .prints)
 
-  pub any-fits : (p : Plan) (room : ℕ) → Is (row the-type) p vs → SoundPlan line p → longestPrint ≤ room → p ≡ fittedOf st name p room
-  any-fits p room g h r = told-fits st name p room (length (textOf st name p)) refl (omega (arith, text-most p g h))
+  pub any-fits : (p : Plan) (room : ℕ) → SoundPlan line p → longestPrint ≤ room → p ≡ fittedOf st name p room
+  any-fits p room h r = told-fits st name p room (length (textOf st name p)) refl (omega (arith, text-most p h))

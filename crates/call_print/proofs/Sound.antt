@@ -8,8 +8,7 @@ use lib.Dec.{eqb}
 use lib.ListN.{length}
 use borrow.Author.Tests.{eqb-false, not-true, not-false}
 use Rattle.text.specs.Pick.{pick}
-use Rattle.rules.specs.Columns.{column}
-use Rattle.rules.specs.Line.{isShaped, isFormed, isRanged, lineOf, nameColumns, firstSide, secondSide, ofKind}
+use Rattle.rules.specs.Line.{isShaped, lineOf, nameColumns, firstSide, secondSide}
 use Rattle.rules.specs.Day.{isEntered}
 use Rattle.rules.specs.declared.Listing.{Listing}
 use Rattle.rules.specs.declared.Trade.{Trade}
@@ -22,11 +21,12 @@ use Rattle.rules.specs.Sizes.{width}
 use Rattle.text.proofs.Booleans.{pick-cases, nonzero}
 use Rattle.call_plan.specs.declared.Plan.{Plan}
 use Rattle.call_plan.specs.declared.Plan.the-variants.{Stop, Open, Enter, Change, Level, Step, Print, Cancel, Correct}
-use Rattle.call_plan.specs.Plan.{datePlan, listingPlan, unlessStopped, printPlan, tradePlan, cancelOf, cancelPlan, correctionOf, correctionPlan, linePlan, readPlan, planOf, SoundListing, SoundTrade, SoundCorrection, SoundLine}
-use Rattle.call_plan.proofs.Ranged.{sound-line, shaped}
-use Rattle.print_side.specs.Columns.{SideColumns}
+use Rattle.call_plan.specs.Plan.{datePlan, listingPlan, unlessStopped, printPlan, tradePlan, cancelOf, cancelPlan, correctionOf, correctionPlan, linePlan, readPlan, planOf}
+use Rattle.call_plan.proofs.Read.{shaped}
+use Rattle.line_owed.specs.Owed.{OwedListing, OwedTrade, OwedCorrection, OwedLine, SideColumns, StandsLine}
+use Rattle.line_owed.proofs.Below.{in-range}
+use Rattle.line_owed.proofs.Owed.{owed-line, stands-line}
 use Rattle.call_print.specs.Print.{SoundPrint, SoundCancel, SoundCorrect, SoundPlan}
-use Rattle.call_print.proofs.Columns.{SidesStand, sides-stand}
 
 pub has-unit : (s : Security) → not (isEntered s) ≡ false → 1 ≤ s .issue .unit
 unfolding isEntered
@@ -37,7 +37,7 @@ module _ (st : Settings) (table names line : List ℕ) where
   unfolding datePlan SoundPlan
   date-sound n = pick-cases (SoundPlan line) _ _ _ (λ z. tt) (λ e. tt)
 
-  listing-sound : (name : List ℕ) (l : Listing) → SoundListing l → length line ≡ width → SoundPlan line (listingPlan table names name l)
+  listing-sound : (name : List ℕ) (l : Listing) → OwedListing l → length line ≡ width → SoundPlan line (listingPlan table names name l)
   unfolding listingPlan SoundPlan
   listing-sound name l h k =
       pick-cases (SoundPlan line) _ _ _ (λ z. tt) (λ e.
@@ -52,39 +52,39 @@ module _ (st : Settings) (table names line : List ℕ) where
       pick-cases (SoundPlan line) _ _ _ (λ z. tt) (λ g. h (has-unit s e))))
 
   module _ (k : length line ≡ width) where
-    trade-sound : (s : Security) (t : Trade) → SoundTrade t → SideColumns (firstSide line) (t .side) → SoundPlan line (tradePlan st s t)
+    trade-sound : (s : Security) (t : Trade) → OwedTrade t → SideColumns (firstSide line) (t .side) → SoundPlan line (tradePlan st s t)
     unfolding tradePlan printPlan SoundPlan
     trade-sound s t h w = stops-sound s t _ (λ u. record { place-is = omega (arith, h .low, h .high); unit-is = u; line-is = k; stands = w })
 
-    cancel-sound : (error : Bool) (s : Security) (t : Trade) → SoundTrade t → SideColumns (firstSide line) (t .side) → SoundPlan line (cancelPlan error st s t)
+    cancel-sound : (error : Bool) (s : Security) (t : Trade) → OwedTrade t → SideColumns (firstSide line) (t .side) → SoundPlan line (cancelPlan error st s t)
     unfolding cancelPlan cancelOf SoundPlan
     cancel-sound error s t h w = stops-sound s t _ (λ u. record { place-is = omega (arith, h .low, h .high); unit-is = u; line-is = k; stands = w })
 
-    correction-sound : (s : Security) (c : Correction) → SoundCorrection c → SideColumns (firstSide line) (c .original) × SideColumns (secondSide line) (c .correcting) → SoundPlan line (correctionPlan st s c)
+    correction-sound : (s : Security) (c : Correction) → OwedCorrection c → SideColumns (firstSide line) (c .original) × SideColumns (secondSide line) (c .correcting) → SoundPlan line (correctionPlan st s c)
     unfolding correctionPlan correctionOf SoundPlan
     correction-sound s c h w =
         pick-cases (SoundPlan line) _ _ _ (λ z. tt) (λ e.
         pick-cases (SoundPlan line) _ _ _ (λ z. tt) (λ f.
         pick-cases (SoundPlan line) _ _ _ (λ z. tt) (λ g. record { place-is = omega (arith, h .low, h .high); unit-is = has-unit s e; line-is = k; original-stands = w .0; correcting-stands = w .1 })))
 
-    line-sound : (name : List ℕ) (l : Line) → SoundLine l → SidesStand line l → SoundPlan line (linePlan st table names name l)
-    unfolding linePlan SoundLine SidesStand SoundPlan
+    line-sound : (name : List ℕ) (l : Line) → OwedLine l → StandsLine line l → SoundPlan line (linePlan st table names name l)
+    unfolding linePlan OwedLine StandsLine SoundPlan
     line-sound name (Dated n) h w = date-sound n
     line-sound name (Listed l) h w = listing-sound name l h k
     line-sound name (Moded m) h w = tt
-    line-sound name (Leveled n) h w = tt
-    line-sound name (Stepped n) h w = tt
+    line-sound name (Leveled n) h w = in-range 5000 100000 n h .1
+    line-sound name (Stepped n) h w = in-range 1 100 n h .1
     line-sound name (Traded t) h w = trade-sound _ t h w
     line-sound name (Cancelled t) h w = cancel-sound false _ t h w
     line-sound name (Erred t) h w = cancel-sound true _ t h w
     line-sound name (Corrected c) h w = correction-sound _ c h w
 
   read-sound : length line ≡ width → SoundPlan line (readPlan st table names line)
-  unfolding readPlan SoundPlan isFormed isRanged lineOf
+  unfolding readPlan SoundPlan
   read-sound k =
       pick-cases (SoundPlan line) _ _ _ (λ z. tt) (λ e.
       pick-cases (SoundPlan line) _ _ _ (λ z. tt) (λ f.
-      line-sound k (nameColumns line) (lineOf line) (sound-line line (ofKind (column 1 line) line) refl f) (sides-stand line k (column 1 line) (not-false _ e) (not-false _ f))))
+      line-sound k (nameColumns line) (lineOf line) (owed-line line (not-false _ f)) (stands-line line k (not-false _ e) (not-false _ f))))
 
   plan-sound : SoundPlan line (planOf st table names line)
   unfolding planOf SoundPlan

@@ -15,7 +15,7 @@ use Rattle.rules.specs.declared.Refusal.the-variants.{Room}
 use Rattle.rules.specs.declared.Settings.{Settings}
 use Rattle.rules.specs.Sizes.{width, securityPlaces}
 use Rattle.call_table.specs.Rows.{nameOf}
-use Rattle.print_side.specs.Columns.{SideColumns}
+use Rattle.line_owed.specs.Owed.{SideColumns}
 use Rattle.call_plan.specs.declared.TradePlan.{TradePlan}
 use Rattle.call_plan.specs.declared.CancelPlan.{CancelPlan}
 use Rattle.call_plan.specs.declared.CorrectionPlan.{CorrectionPlan}
@@ -94,8 +94,8 @@ SoundPlan line (Stop r) = Unit {0}
 SoundPlan line (Open n) = Unit {0}
 SoundPlan line (Enter i s) = (i < securityPlaces) × (length line ≡ width)
 SoundPlan line (Change m) = Unit {0}
-SoundPlan line (Level n) = Unit {0}
-SoundPlan line (Step n) = Unit {0}
+SoundPlan line (Level n) = n ≤ 100000
+SoundPlan line (Step n) = n ≤ 100
 SoundPlan line (Print t) = SoundPrint line t
 SoundPlan line (Cancel t) = SoundCancel line t
 SoundPlan line (Correct c) = SoundCorrect line c

@@ -25,9 +25,9 @@ use Rattle.rules.specs.Sizes.{longestPrint}
 use Rattle.call_table.specs.Rows.{withRow, nameOf}
 use Rattle.name_text.proofs.Text.{name-most}
 use Rattle.print_amounts.proofs.Digits.{whole-units}
-use Rattle.print_side.specs.Columns.{SideColumns}
+use Rattle.line_owed.specs.Owed.{OwedSide, SideColumns}
 use Rattle.print_side.proofs.Columns.{no-letters}
-use Rattle.print_side.proofs.Short.{Short, side-short}
+use Rattle.print_side.proofs.Short.{side-short}
 use Rattle.line_trade.specs.declared.TradeLine.{TradeLine}
 use Rattle.line_trade.specs.TradeLine.{noLetters, sideIn}
 use Rattle.decide_trade.specs.Value.{printsBy, fullBy, showsBy, afterBy}
@@ -43,7 +43,7 @@ unfolding untakenOf
 untaken-is = refl
 
 -- no side is longer than `longestPrint` bytes
-pub room-any : (room : ℕ) (name : List ℕ) (temporary : Bool) (network unit : ℕ) (form : PriceForm) (shows : Bool) (x : Side) → Short x → longestPrint ≤ room → true ≡ leb (length (sideText (nameText temporary name) network unit form shows x)) room
+pub room-any : (room : ℕ) (name : List ℕ) (temporary : Bool) (network unit : ℕ) (form : PriceForm) (shows : Bool) (x : Side) → OwedSide x → longestPrint ≤ room → true ≡ leb (length (sideText (nameText temporary name) network unit form shows x)) room
 room-any room name temporary network unit form shows x h l = sym (le-leb _ room (omega (arith, side-short x h (nameText temporary name) network unit form shows, name-most temporary name)))
 
 pub fits : (n room : ℕ) (q : Bool) → q ≡ leb n room → not q ≡ false → n ≤ room
@@ -88,7 +88,7 @@ module _ (st : Settings) (s : Security) (names : List ℕ) (place market : ℕ) 
       (f : form ≡ formBy (fullBy st s market (value / 100000000))) (w : shows ≡ showsBy st s market (x .volume) lasts rule) (t : temporary ≡ showsTemporary s) (n : name ≡ nameOf names place) where
     whole-is : value / 100000000 ≡ wholePart (x .price)
     unfolding units wholePart
-    whole-is = ap (λ (z : ℕ). z / 100000000) (d .value-is) ∙ whole-units (x .price .n) (x .price .d) (c .sound .decimals)
+    whole-is = ap (λ (z : ℕ). z / 100000000) (d .value-is) ∙ whole-units (x .price .n) (x .price .d) (c .owed .price .decimals)
 
     abbrev side : List ℕ
     side = sideText (nameText temporary name) (s .issue .network) (s .issue .unit) form shows x

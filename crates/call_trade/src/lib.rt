@@ -21,7 +21,7 @@ ghost use Rattle.rules.specs.Side.{sideText};
 ghost use Rattle.rules.specs.Conditions.{hasRule, onNetwork};
 ghost use Rattle.rules.specs.Qualifying.{forRange, forLast};
 ghost use Rattle.call_table.specs.Rows.{row, nameOf};
-ghost use Rattle.print_side.specs.Columns.{SideColumns};
+ghost use Rattle.line_owed.specs.Owed.{OwedSide, SideColumns};
 ghost use Rattle.line_trade.specs.TradeLine.{noLetters, sideIn};
 ghost use Rattle.call_trade.specs.Traded.{untakenOf, Decided, Fitted, Carried};
 
@@ -96,7 +96,7 @@ fn has_room(
     shows: bool,
     x: Side,
 ) -> bool
-    requires { ⌜ (length (now name) ≡ nameWidth) × (1 ≤ unit) × (x .price .d ≤ 8) × (x .previous .d ≤ 8) ⌝ }
+    requires { ⌜ (length (now name) ≡ nameWidth) × (1 ≤ unit) × OwedSide x ⌝ }
     ensures { λ r. ⌜ r ≡ leb (length (sideText (nameText temporary (now (name .entry))) network unit form shows x)) room ⌝ }
 {
     if LONGEST_PRINT <= room {

@@ -7,15 +7,14 @@ use mathlib.Core.List.{List, []}
 use mathlib.Core.Option.{Option, none, some}
 use lib.Dec.{ltb}
 use lib.ListN.{length}
-use borrow.Author.Tests.{le-ltb}
+use borrow.Author.Tests.{le-ltb, not-false}
 use Rattle.text.specs.Pick.{pick, opt}
 use Rattle.rules.specs.Names.{nameText}
 use Rattle.rules.specs.Conditions.{onNetwork}
 use Rattle.rules.specs.Side.{sideText}
 use Rattle.rules.specs.Trade.{printsTrade, tradeForm, tradeShows, afterTrade}
 use Rattle.rules.specs.Correction.{correctionText, cancelText, cancelOpening, errorOpening, printsCorrection, correctionForm, correctionShows, cancelForm, cancelShows, afterCorrection}
-use Rattle.rules.specs.Columns.{column}
-use Rattle.rules.specs.Line.{isShaped, isFormed, isRanged, lineOf, ofKind, nameColumns}
+use Rattle.rules.specs.Line.{isShaped, lineOf, nameColumns}
 use Rattle.rules.specs.Refusal.{refuse, refusalNumber}
 use Rattle.rules.specs.Day as rules
 use Rattle.rules.specs.Day.{Day, Call, cleared, securityAt, nameAt, isEntered, showsTemporary, entered, tradePrint, cancelPrint, correctionPrint, stateRefusal, dateRefusal, listingRefusal, tradeRefusal, correctionRefusal, undated, refusalOf, afterLine, tapeOf, after}
@@ -35,8 +34,10 @@ use Rattle.call_table.specs.Rows.{row, nameOf, dayOf}
 use Rattle.call_table.proofs.Held.{held-security, held-name, security-set, name-set, held-cleared}
 use Rattle.call_plan.specs.declared.Plan.{Plan}
 use Rattle.call_plan.specs.declared.Plan.the-variants.{Stop, Open, Enter, Change, Level, Step, Print, Cancel, Correct}
-use Rattle.call_plan.specs.Plan.{datePlan, listingPlan, unlessStopped, printPlan, tradePlan, cancelOf, cancelPlan, correctionOf, correctionPlan, linePlan, readPlan, planOf, SoundListing, SoundTrade, SoundCorrection, SoundLine}
-use Rattle.call_plan.proofs.Ranged.{sound-line, shaped}
+use Rattle.call_plan.specs.Plan.{datePlan, listingPlan, unlessStopped, printPlan, tradePlan, cancelOf, cancelPlan, correctionOf, correctionPlan, linePlan, readPlan, planOf}
+use Rattle.line_owed.specs.Owed.{OwedListing, OwedTrade, OwedCorrection, OwedLine}
+use Rattle.line_owed.proofs.Owed.{owed-line}
+use Rattle.call_plan.proofs.Read.{shaped}
 use Rattle.call_print.specs.Print.{printedName, printText, cancelled, corrected, textOf, fittedOf, printOf}
 use Rattle.engine.specs.Taken.{asked, outcomeOf, stopNumber}
 use Rattle.call_state.specs.After.{settingsAfter, tableAfter, namesAfter}
@@ -131,18 +132,18 @@ module _ (st : Settings) (table names line : List ℕ) (room : ℕ) where
     unfolding stateRefusal linePlan rules.printOf afterLine dayOf stopOf printOf textOf printedName dayAfter settingsAfter tableAfter namesAfter
     same-step n = ends _ _ (Step n) refl refl refl
 
-    held-listing : (l : Listing) → SoundListing l → dayAfter st table names line (Enter (l .number - 1) (entered l)) ≡ afterLine day name (Listed l)
+    held-listing : (l : Listing) → OwedListing l → dayAfter st table names line (Enter (l .number - 1) (entered l)) ≡ afterLine day name (Listed l)
     unfolding afterLine dayOf dayAfter settingsAfter tableAfter namesAfter
     held-listing l h = rw (← columns, security-set st table names (l .number) (h .low) (h .high) (entered l) rows, name-set st table names (l .number) (h .low) (h .high) name long places)
 
-    same-listing : (l : Listing) → SoundListing l → Same (Listed l)
+    same-listing : (l : Listing) → OwedListing l → Same (Listed l)
     unfolding stateRefusal listingRefusal refuse linePlan listingPlan rules.printOf dayOf stopOf printOf textOf printedName
     same-listing l h =
         asks _ _ _ _ _ _ _ _ (ap isEntered (held-security st table names (l .number) (h .low) (h .high))) (λ e. stops _ _ InUse) (λ e.
         asks _ _ _ _ _ _ _ _ refl (λ f. stops _ _ Name) (λ f.
         asks _ _ _ _ _ _ _ _ refl (λ g. stops _ _ SameName) (λ g. ends [] _ (Enter (l .number - 1) (entered l)) refl refl (held-listing l h))))
 
-    module _ (t : Trade) (h : SoundTrade t) where
+    module _ (t : Trade) (h : OwedTrade t) where
       abbrev s : Security
       s = row table (t .security - 1)
 
@@ -185,7 +186,7 @@ module _ (st : Settings) (table names line : List ℕ) (room : ℕ) where
       unfolding stateRefusal linePlan cancelPlan rules.printOf afterLine stopOf pick
       same-error = unless-stopped (cancelPrint errorOpening day t) _ _ (ends (cancelPrint errorOpening day t) _ (Cancel (cancelOf true st s t)) refl (cancel-print true) (held-cancel true))
 
-    module _ (c : Correction) (h : SoundCorrection c) where
+    module _ (c : Correction) (h : OwedCorrection c) where
       abbrev x : Security
       x = row table (c .security - 1)
 
@@ -209,9 +210,9 @@ module _ (st : Settings) (table names line : List ℕ) (room : ℕ) where
 
 -- ---- every kind
 
-same-line : (st : Settings) (table names line : List ℕ) (room : ℕ) (l : Line) → length table ≡ tableSize → length names ≡ namesSize → length (nameColumns line) ≡ 19 → SoundLine l
+same-line : (st : Settings) (table names line : List ℕ) (room : ℕ) (l : Line) → length table ≡ tableSize → length names ≡ namesSize → length (nameColumns line) ≡ 19 → OwedLine l
     → Agrees st table names line room (rules.printOf (dayOf st table names) l) (afterLine (dayOf st table names) (nameColumns line) l) (stateRefusal (dayOf st table names) (nameColumns line) l (refuse (ltb room (length (rules.printOf (dayOf st table names) l))) Room none)) (linePlan st table names (nameColumns line) l)
-unfolding SoundLine
+unfolding OwedLine
 same-line st table names line room (Dated n) e f g h = same-date st table names line room (nameColumns line) refl e f g n
 same-line st table names line room (Listed l) e f g h = same-listing st table names line room (nameColumns line) refl e f g l h
 same-line st table names line room (Moded m) e f g h = same-mode st table names line room (nameColumns line) refl e f g m
@@ -250,14 +251,14 @@ stop-number (Correct c) = refl
 
 module _ (st : Settings) (table names line : List ℕ) (room : ℕ) (rows : length table ≡ tableSize) (places : length names ≡ namesSize) where
   agrees : Agrees st table names line room (rules.printOf (dayOf st table names) (lineOf line)) (afterLine (dayOf st table names) (nameColumns line) (lineOf line)) (refusalOf (dayOf st table names) line room) (planOf st table names line)
-  unfolding refusalOf refuse undated planOf readPlan isFormed isRanged lineOf dayOf
+  unfolding refusalOf refuse undated planOf readPlan dayOf
   agrees =
       asks st table names line room _ _ _ _ _ _ _ _ refl (λ e. stops st table names line room _ _ Shape) (λ e.
       asks st table names line room _ _ _ _ _ _ _ _ refl (λ f. stops st table names line room _ _ Kind) (λ f.
       asks st table names line room _ _ _ _ _ _ _ _ refl (λ g. stops st table names line room _ _ NoDate) (λ g.
       asks st table names line room _ _ _ _ _ _ _ _ refl (λ h. stops st table names line room _ _ Form) (λ h.
       asks st table names line room _ _ _ _ _ _ _ _ refl (λ i. stops st table names line room _ _ Value) (λ i.
-      same-line st table names line room (lineOf line) rows places (name-length line (shaped line (isShaped line) refl e)) (sound-line line (ofKind (column 1 line) line) refl i))))))
+      same-line st table names line room (lineOf line) rows places (name-length line (shaped line (isShaped line) refl e)) (owed-line line (not-false _ i)))))))
 
   abbrev call : Call
   call = record { line = line; room = room }

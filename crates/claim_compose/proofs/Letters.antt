@@ -13,7 +13,7 @@ use Rattle.rules.specs.declared.Letters.{Letters}
 use Rattle.name_back.specs.Cut.{oneSold}
 use borrow.Author.Tests.{not-true}
 use Rattle.claim_compose.specs.Columns.{firstOr, later, textField, lettersText, lettersColumns}
-use Rattle.claim_compose.specs.Shown.{letterCount, oneDelivery, showable}
+use Rattle.line_owed.specs.Shown.{letterCount, oneDelivery, showable}
 
 sameBool : Bool → Bool → Bool
 sameBool true b = b

@@ -1,4 +1,3 @@
-pub mod Below
 pub mod Fields
 pub mod Letters
 pub mod Sides

@@ -23,7 +23,7 @@ use Rattle.rules.specs.Sizes.{width}
 use Rattle.text.proofs.Booleans.{false-true}
 use Rattle.claim_compose.specs.Columns.{digitsBefore, numberField, later, textField, blanks}
 use Rattle.claim_compose.specs.Lines.{listingLine}
-use Rattle.claim_compose.specs.Shown.{Enterable}
+use Rattle.line_owed.specs.Shown.{Enterable}
 use Rattle.claim_compose.proofs.ByKind.{line-by, formed-by, ranged-by}
 use Rattle.claim_compose.proofs.Fields.{number-back, text-filled, printable-number}
 

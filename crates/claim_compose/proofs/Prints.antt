@@ -42,9 +42,9 @@ use Rattle.name_back.specs.Plain.{NamePlain}
 use Rattle.claim_compose.specs.Columns.{digitsBefore, numberField, firstOr, later, textField, blanks}
 use Rattle.claim_compose.proofs.Fields.{number-back, printable-number}
 use Rattle.claim_compose.specs.Lines.{listingLine, tradeLine, correctionLine, modeLetter, modeLine, levelLine}
-use Rattle.claim_compose.specs.Shown.{Enterable, Showable}
+use Rattle.line_owed.specs.Shown.{Enterable, Showable}
 use Rattle.claim_compose.specs.Printable.{Printable, by-mode, by-level, by-trade, by-cancel, by-error, by-correction}
-use Rattle.claim_compose.proofs.Below.{unit-some}
+use Rattle.line_owed.proofs.Owed.{unit-some}
 use Rattle.claim_compose.proofs.ByKind.{line-by, formed-by, ranged-by}
 use Rattle.claim_compose.proofs.Sides.{SideSaid, side-said}
 use Rattle.claim_compose.proofs.Listing.{listedAs, listed-line, listing-accepted, kind-there, name-is, shape, not-zero, blanks-printable, blanks-blank}

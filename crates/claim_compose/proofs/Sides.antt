@@ -1,11 +1,10 @@
 -- A side's columns say the side. Assumes nothing.
-use Prim.Native.Nat.{ℕ, _+_, _-_, _^_, _≤_, _<_}
-use native.Mathlib.Nat.{pow-le-pow-right, lt-of-lt-of-le}
+use Prim.Native.Nat.{ℕ, _-_, _^_, _<_}
 use native.Mathlib.Omega.{arith}
 use mathlib.Core.Path.{_≡_, refl, sym, ap, _∙_}
 use mathlib.Core.Bool.{Bool, true, false, _&&_}
 use lib.Dec.{leb, eqb}
-use borrow.Author.Tests.{eqb-true, leb-true, ltb-true}
+use borrow.Author.Tests.{eqb-true}
 use Rattle.text.specs.Pick.{pick, all}
 use Rattle.text.proofs.Texts.{and-left, and-right}
 use Rattle.text.proofs.Parts.{all-append}
@@ -18,7 +17,9 @@ use Rattle.rules.specs.declared.Price.{Price}
 use Rattle.rules.specs.declared.Side.{Side}
 use Rattle.claim_compose.specs.Columns.{digitsBefore, numberField, textField, lettersColumns, filledIf}
 use Rattle.claim_compose.specs.Lines.{sideColumns}
-use Rattle.claim_compose.specs.Shown.{Showable}
+use Rattle.line_owed.specs.Shown.{Showable}
+use Rattle.line_owed.specs.Owed.{OwedSide}
+use Rattle.line_owed.proofs.Shown.{sound-below, shown-owed}
 use Rattle.claim_compose.proofs.Fields.{number-back, filled-number, printable-number, printable-if}
 use Rattle.claim_compose.proofs.Letters.{Said, letters-said}
 
@@ -26,47 +27,9 @@ use Rattle.claim_compose.proofs.Letters.{Said, letters-said}
 given : Bool → ℕ → Number
 given b n = pick b (Is n) Blank
 
--- ---- within its columns
-
-pub below-power : (d n : ℕ) → isPrice n d ≡ true → n < 10 ^ 14
-unfolding isPrice
-below-power d n h =
-    let e = and-right (leb 1 n) _ h in
-    let l : d ≤ 8 = leb-true d 8 (and-left (leb d 8) _ e) in
-    lt-of-lt-of-le (ltb-true n (10 ^ (6 + d)) (and-right (leb d 8) _ e)) (pow-le-pow-right {n = 10} (omega arith) {i = 6 + d} {j = 14} (omega (l, arith)))
-
-pub few-decimals : (d n : ℕ) → isPrice n d ≡ true → d ≤ 8
-unfolding isPrice
-few-decimals d n h = leb-true d 8 (and-left (leb d 8) _ (and-right (leb 1 n) _ h))
-
-small-decimals : (d n : ℕ) → isPrice n d ≡ true → d < 10 ^ 1
-small-decimals d n h = omega (few-decimals d n h, arith)
-
-pub volume-small : (v : ℕ) → between 1 999999999 v ≡ true → v < 10 ^ 9
-unfolding between
-volume-small v h = omega (leb-true v 999999999 (and-right (leb 1 v) _ h), arith)
-
-pub days-small : (b : Bool) (n : ℕ) → pick b (between 1 999 n) (eqb n 0) ≡ true → n < 10 ^ 3
-unfolding pick between
-days-small true n h = omega (leb-true n 999 (and-right (leb 1 n) _ h), arith)
-days-small false n h = omega (eqb-true n 0 h, arith)
-
 -- the previous last, where it is there
-unfoldable pub PreviousFits : Bool → ℕ → ℕ → Bool
+unfoldable PreviousFits : Bool → ℕ → ℕ → Bool
 PreviousFits b m e = pick b (isPrice m e) (eqb m 0 && eqb e 0)
-
-pub previous-small : (b : Bool) (m e : ℕ) → PreviousFits b m e ≡ true → m < 10 ^ 14
-unfolding PreviousFits pick
-previous-small true m e h = below-power e m h
-previous-small false m e h = omega (eqb-true m 0 (and-left (eqb m 0) _ h), arith)
-
-pub previous-few : (b : Bool) (m e : ℕ) → PreviousFits b m e ≡ true → e ≤ 8
-unfolding PreviousFits pick
-previous-few true m e h = few-decimals e m h
-previous-few false m e h = omega (eqb-true e 0 (and-right (eqb m 0) _ h), arith)
-
-previous-decimals : (b : Bool) (m e : ℕ) → PreviousFits b m e ≡ true → e < 10 ^ 1
-previous-decimals b m e h = omega (previous-few b m e h, arith)
 
 -- ---- what is asked of a number that may be left blank
 
@@ -147,27 +110,30 @@ module _ (network : ℕ) (x : Side) (h : Showable network x) where
   said : Said (x .letters)
   said = letters-said (x .letters) (h .letters-fit)
 
+  owes : OwedSide x
+  owes = shown-owed network x h
+
   volume-is : volumeIn (sideColumns x) ≡ Is (x .volume)
-  volume-is = volume-there x (volume-small (x .volume) (h .volume-fits))
+  volume-is = volume-there x (owes .volume)
 
   price-is : priceIn (sideColumns x) ≡ Is (x .price .n)
-  price-is = price-there x (below-power (x .price .d) (x .price .n) (h .price-fits))
+  price-is = price-there x (sound-below (x .price) (owes .price))
 
   decimals-is : decimalsIn (sideColumns x) ≡ Is (x .price .d)
-  decimals-is = decimals-there x (small-decimals (x .price .d) (x .price .n) (h .price-fits))
+  decimals-is = decimals-there x (omega (arith, owes .price .decimals))
 
   days-is : daysIn (sideColumns x) ≡ given (x .letters .r) (x .days)
-  days-is = days-there x (days-small (x .letters .r) (x .days) (h .days-fit))
+  days-is = days-there x (owes .days)
 
   fits : PreviousFits (x .letters .g) (x .previous .n) (x .previous .d) ≡ true
   unfolding PreviousFits
   fits = h .previous-fits
 
   previous-is : previousIn (sideColumns x) ≡ given (x .letters .g) (x .previous .n)
-  previous-is = previous-there x (previous-small (x .letters .g) (x .previous .n) (x .previous .d) fits)
+  previous-is = previous-there x (owes .last)
 
   previous-decimals-is : previousDecimalsIn (sideColumns x) ≡ given (x .letters .g) (x .previous .d)
-  previous-decimals-is = previous-decimals-there x (previous-decimals (x .letters .g) (x .previous .n) (x .previous .d) fits)
+  previous-decimals-is = previous-decimals-there x (omega (arith, owes .decimals))
 
   said-formed : sideFormed (sideColumns x) ≡ true
   unfolding sideFormed formedBy isNumber

@@ -1,4 +1,3 @@
 pub mod Columns
 pub mod Lines
-pub mod Shown
 pub mod Printable

@@ -14,7 +14,7 @@ use Rattle.rules.specs.Shown.{conditionsOf, Part, inFull}
 use Rattle.rules.specs.NormalPrint.{ReadFact, readAnnouncement, readTrade, readCancel, readError, readCorrection}
 use Rattle.rules.specs.declared.Mode.{Mode}
 use Rattle.rules.specs.declared.Side.{Side}
-use Rattle.claim_compose.specs.Shown.{Enterable, Showable}
+use Rattle.line_owed.specs.Shown.{Enterable, Showable}
 use Rattle.rules.specs.declared.PriceForm.the-variants.{Full}
 
 -- the part that a side is in normal mode

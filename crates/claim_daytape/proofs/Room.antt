@@ -18,8 +18,8 @@ use Rattle.rules.specs.declared.Line.the-variants.{Dated, Listed, Moded, Levele
 use Rattle.rules.specs.declared.Refusal.{Refusal}
 use Rattle.rules.specs.declared.Refusal.the-variants.{Shape, Kind, NoDate, Form, Value, NotEntered, InUse, Name, SameName, Conditions, Unmatched, DateOrder, Room}
 use Rattle.rules.specs.Sizes.{longestPrint}
-use Rattle.claim_normal.specs.Invariant.{Invariant}
-use Rattle.claim_normal.proofs.Views.{of-kind}
+use Rattle.line_owed.specs.Reached.{Reached}
+use Rattle.line_owed.proofs.Owed.{owed-line}
 use Rattle.claim_daytape.proofs.Most.{print-by}
 
 -- ---- a chain of refusals that ends in 13
@@ -55,33 +55,30 @@ chain a b c d e day name l h =
 
 -- ---- one line, on a day that can be reached
 
-module _ (day : Day) (line : List ℕ) (reached : Invariant day) where
-  -- every line in its form and within its values
-  fits : isFormed line ≡ true → isRanged line ≡ true → length (printOf day (lineOf line)) ≤ longestPrint
-  unfolding lineOf isFormed isRanged
-  fits f r = print-by day line (reached .minimum-set) (of-kind (column 1 line) line f r)
+module _ (day : Day) (line : List ℕ) (reached : Reached day) where
+  -- every line within its values
+  fits : isRanged line ≡ true → length (printOf day (lineOf line)) ≤ longestPrint
+  fits r = print-by day (reached .minimum-set) (lineOf line) (owed-line line r)
 
   -- the last check of the chain
   abbrev last : ℕ → Option Refusal
   last room = refuse (ltb room (length (printOf day (lineOf line)))) Room none
 
   module _ (room : ℕ) (enough : longestPrint ≤ room) where
-    fits-then : isFormed line ≡ true → isRanged line ≡ true → last room ≡ none
+    fits-then : isRanged line ≡ true → last room ≡ none
     unfolding refuse pick
-    fits-then f r = rw (le-ltb room (length (printOf day (lineOf line))) (omega (arith, fits f r, enough)))
+    fits-then r = rw (le-ltb room (length (printOf day (lineOf line))) (omega (arith, fits r, enough)))
 
-    -- what 4 and 5 leave is as if there were no check of room
-    open-ended : (f r : Bool) → isFormed line ≡ f → isRanged line ≡ r
-        → refuse (not f) Form (refuse (not r) Value (stateRefusal day (nameColumns line) (lineOf line) (last room))) ≡ refuse (not f) Form (refuse (not r) Value (stateRefusal day (nameColumns line) (lineOf line) none))
+    -- what 5 leaves is as if there were no check of room
+    open-ended : (r : Bool) → isRanged line ≡ r → refuse (not r) Value (stateRefusal day (nameColumns line) (lineOf line) (last room)) ≡ refuse (not r) Value (stateRefusal day (nameColumns line) (lineOf line) none)
     unfolding refuse pick
-    open-ended false r e q = refl
-    open-ended true false e q = refl
-    open-ended true true e q = ap (stateRefusal day (nameColumns line) (lineOf line)) (fits-then e q)
+    open-ended false q = refl
+    open-ended true q = ap (stateRefusal day (nameColumns line) (lineOf line)) (fits-then q)
 
     -- the refusal of a line that is lent enough
     roomless : refusalOf day line room ≡ refuse (not (isShaped line)) Shape (refuse (not (isKind (column 1 line))) Kind (refuse (not (eqb (column 1 line) 68) && undated day) NoDate (refuse (not (isFormed line)) Form (refuse (not (isRanged line)) Value (stateRefusal day (nameColumns line) (lineOf line) none)))))
     unfolding refusalOf
-    roomless = ap (λ (o : Option Refusal). refuse (not (isShaped line)) Shape (refuse (not (isKind (column 1 line))) Kind (refuse (not (eqb (column 1 line) 68) && undated day) NoDate o))) (open-ended (isFormed line) (isRanged line) refl refl)
+    roomless = ap (λ (o : Option Refusal). refuse (not (isShaped line)) Shape (refuse (not (isKind (column 1 line))) Kind (refuse (not (eqb (column 1 line) 68) && undated day) NoDate (refuse (not (isFormed line)) Form o)))) (open-ended (isRanged line) refl)
 
     -- NO LINE IS REFUSED 13
     pub never-short : refusalNumber (refusalOf day line room) ≡ 13 → ⊥

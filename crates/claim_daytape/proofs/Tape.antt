@@ -22,8 +22,8 @@ use Rattle.claim_calls.specs.Held.{stopOf}
 use Rattle.claim_calls.specs.Run.{State, Sized, Lent, Holds}
 use Rattle.claim_calls.specs.Run.Holds.{undated}
 use Rattle.claim_calls.proofs.Runs.{link-tape, link-sized, link-holds, link-refusal}
-use Rattle.claim_normal.specs.Invariant.{Invariant}
-use Rattle.claim_normal.proofs.Days.{held-fresh, held-after}
+use Rattle.line_owed.specs.Reached.{Reached}
+use Rattle.line_owed.proofs.Reached.{kept-fresh, kept-call}
 use Rattle.feed_lines.specs.Feed.{Progress, told, carried, lineTaken, roomLeft, linesTaken}
 use Rattle.feed_lines.specs.Handed.{handed, allTaken, turnOf, printAt, printsOf, toldOf}
 use Rattle.feed_lines.proofs.Whole.{handed-on, handed-off, handed-taken, all-number, all-tape, all-told}
@@ -47,7 +47,7 @@ told-stop number n (Cancel t) = refl
 told-stop number n (Correct c) = refl
 
 -- a call of the engine on a state that holds a day that can be reached
-module _ (s : State) (day : Day) (sized : Sized s) (holds : Holds s day) (reached : Invariant day) (c : Lent) (enough : longestPrint ≤ length (c .tape)) where
+module _ (s : State) (day : Day) (sized : Sized s) (holds : Holds s day) (reached : Reached day) (c : Lent) (enough : longestPrint ≤ length (c .tape)) where
   abbrev q : Plan
   q = asked (s .settings) (s .table) (s .names) (c .line) (length (c .tape))
 
@@ -82,7 +82,7 @@ record LineBy (tape : ℕ) (l : List ℕ) (p : Progress) (day : Day) : Type 0 wh
   sized : Sized (stateOf (lineTaken tape l p))
   holds : Holds (stateOf (lineTaken tape l p)) (after day (ample l))
 
-line-by : (tape : ℕ) (l : List ℕ) (p : Progress) (day : Day) → Sized (stateOf p) → Holds (stateOf p) day → Invariant day → longestPrint ≤ tape - length (p .tape) → LineBy tape l p day
+line-by : (tape : ℕ) (l : List ℕ) (p : Progress) (day : Day) → Sized (stateOf p) → Holds (stateOf p) day → Reached day → longestPrint ≤ tape - length (p .tape) → LineBy tape l p day
 unfolding printAt turnOf lineTaken carried
 line-by tape l p day z h k enough =
     let room = tape - length (p .tape) in
@@ -102,9 +102,9 @@ record LinesBy (tape : ℕ) (hs : List (List ℕ)) (p : Progress) (day : Day) : 
   told-are : toldOf tape hs p ≡ refusalsOfLines day (p .number) hs
   sized : Sized (stateOf (allTaken tape hs p))
   holds : Holds (stateOf (allTaken tape hs p)) (dayOfLines day hs)
-  reached : Invariant (dayOfLines day hs)
+  reached : Reached (dayOfLines day hs)
 
-no-lines : (tape : ℕ) (p : Progress) (day : Day) → Sized (stateOf p) → Holds (stateOf p) day → Invariant day → LinesBy tape [] p day
+no-lines : (tape : ℕ) (p : Progress) (day : Day) → Sized (stateOf p) → Holds (stateOf p) day → Reached day → LinesBy tape [] p day
 unfolding printsOf toldOf allTaken tapeOfLines refusalsOfLines dayOfLines
 no-lines tape p day z h k = record { prints-are = refl; told-are = refl; sized = z; holds = h; reached = k }
 
@@ -120,18 +120,18 @@ one-more tape l hs p day a b =
     }
 
 module _ (tape refusals : ℕ) where
-  handed-by : (ls : List (List ℕ)) (p : Progress) (day : Day) → Sized (stateOf p) → Holds (stateOf p) day → Invariant day → LinesBy tape (handed tape refusals ls p) p day
+  handed-by : (ls : List (List ℕ)) (p : Progress) (day : Day) → Sized (stateOf p) → Holds (stateOf p) day → Reached day → LinesBy tape (handed tape refusals ls p) p day
   unfolding handed roomLeft
   handed-by [] p day z h k = no-lines tape p day z h k
   handed-by (l ∷ ls) p day z h k = go (roomLeft tape refusals (length (p .tape)) (length (p .refusals)) (p .number)) refl (handed-by ls (lineTaken tape l p) (after day (ample l)))
     where
       go : (b : Bool) → roomLeft tape refusals (length (p .tape)) (length (p .refusals)) (p .number) ≡ b
-          → (Sized (stateOf (lineTaken tape l p)) → Holds (stateOf (lineTaken tape l p)) (after day (ample l)) → Invariant (after day (ample l)) → LinesBy tape (handed tape refusals ls (lineTaken tape l p)) (lineTaken tape l p) (after day (ample l)))
+          → (Sized (stateOf (lineTaken tape l p)) → Holds (stateOf (lineTaken tape l p)) (after day (ample l)) → Reached (after day (ample l)) → LinesBy tape (handed tape refusals ls (lineTaken tape l p)) (lineTaken tape l p) (after day (ample l)))
           → LinesBy tape (handed tape refusals (l ∷ ls) p) p day
       go true e on =
           let enough = leb-true longestPrint (tape - length (p .tape)) (and-left (leb longestPrint (tape - length (p .tape))) _ e) in
           let a = line-by tape l p day z h k enough in
-          rw (handed-on tape refusals l ls p e) (one-more tape l _ p day a (on (a .sized) (a .holds) (held-after day (ample l) k)))
+          rw (handed-on tape refusals l ls p e) (one-more tape l _ p day a (on (a .sized) (a .holds) (kept-call day (ample l) k)))
       go false e on = rw (handed-off tape refusals l ls p e) (no-lines tape p day z h k)
 
 -- ---- feeds
@@ -150,7 +150,7 @@ refusals-joined day n (l ∷ ls) ms =
     ap (λ (x : List ℕ). t ++ x) (refusals-joined (after day (ample l)) (n + 1) ls ms)
     ∙ (sym (append-assoc t _ _) ∙ ap (λ (k : ℕ). (t ++ refusalsOfLines (after day (ample l)) (n + 1) ls) ++ refusalsOfLines (dayOfLines (after day (ample l)) ls) k ms) e)
 
-feeds-by-rules : {s : State} {n : ℕ} {ls : List (List ℕ)} {out told : List ℕ} → Feeds s n ls out told → (day : Day) → Sized s → Holds s day → Invariant day → DayTape ls day n out told
+feeds-by-rules : {s : State} {n : ℕ} {ls : List (List ℕ)} {out told : List ℕ} → Feeds s n ls out told → (day : Day) → Sized s → Holds s day → Reached day → DayTape ls day n out told
 unfolding tapeOfLines refusalsOfLines
 feeds-by-rules ended day z h k = record { tape-is = refl; refusals-are = refl }
 feeds-by-rules (fed {s} {n} {ms} {out} {told} tape refusals ls rest) day z h k =
@@ -169,4 +169,4 @@ feeds-by-rules (fed {s} {n} {ms} {out} {told} tape refusals ls rest) day z h k =
 
 -- THE TAPE OF A DAY: from a fresh state, whatever the lent tables hold, whatever blocks and room each feed has
 pub day-tape : {s : State} {ls : List (List ℕ)} {out told : List ℕ} → Feeds s 1 ls out told → s .settings ≡ opened 0 → Sized s → DayTape ls fresh 1 out told
-day-tape f e z = feeds-by-rules f fresh z (undated e refl) held-fresh
+day-tape f e z = feeds-by-rules f fresh z (undated e refl) kept-fresh

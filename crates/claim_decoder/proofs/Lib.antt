@@ -1,3 +1,4 @@
+pub mod Lawful
 pub mod Sides
 pub mod Lookup
 pub mod Fresh

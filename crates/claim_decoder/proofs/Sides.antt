@@ -120,21 +120,21 @@ module _ (s : Security) (x : Side) (h : LawfulSide x) where
   in-full : (m : Bool) → (not m && (between 1 9 w && leb 10 (dollars (s .printed .price)))) ≡ false → Decoded m (shownPrice Full p)
   unfolding pick
   in-full m k =
-      let e : dollars (shownPrice Full p) ≡ w = ap dollars (shown-full p) ∙ dollars-of w (part p) (part-small p (h .decimals)) in
-      rw (e, k) (full-price p (h .decimals))
+      let e : dollars (shownPrice Full p) ≡ w = ap dollars (shown-full p) ∙ dollars-of w (part p) (part-small p (h .owed .price .decimals)) in
+      rw (e, k) (full-price p (h .owed .price .decimals))
 
   in-short : Shortened s w → Decoded false (shownPrice Short p)
   unfolding pick trade.tens
   in-short k = go (leb 10 (dollars (s .printed .price))) refl
     where
       e : dollars (shownPrice Short p) ≡ w % 10
-      e = ap dollars (shown-short p) ∙ dollars-of (w % 10) (part p) (part-small p (h .decimals))
+      e = ap dollars (shown-short p) ∙ dollars-of (w % 10) (part p) (part-small p (h .owed .price .decimals))
 
       digit : between 1 9 (w % 10) ≡ true
       digit = between-yes (w % 10) (nonzero (w % 10) (k .some-digit)) (omega arith)
 
       whole : units p ≡ w * 100000000 + part p
-      whole = sym (full-price p (h .decimals)) ∙ shown-full p
+      whole = sym (full-price p (h .owed .price .decimals)) ∙ shown-full p
 
       go : (b : Bool) → leb 10 (dollars (s .printed .price)) ≡ b → Decoded false (shownPrice Short p)
       go true q = rw (e, digit, q) (rw (shown-short p) (omega (arith, k .same-tens, whole)))

@@ -65,10 +65,7 @@ side-ok : (network : ℕ) (n : List ℕ) → NamePlain network n → (a b : Bool
 unfolding headText
 side-ok network n k a b x h = record {
   upper = all-append isUpper (opt a (nameText b n)) (afterName (x .letters)) (all-opt isUpper a (nameText b n) (name-upper network n k b)) (conditions-upper (x .letters));
-  volume = h .volume;
-  price = h .price;
-  decimals = h .decimals;
-  previous = h .previous;
+  owed = h .owed;
 }
 
 -- ---- a trade
@@ -100,7 +97,7 @@ unfolding partBy partOf sideShown formBy pick
 part-by mode name network unit full shows x h = rw (conditions-by x h) (go (isNormal mode))
   where
     go : (m : Bool) → pick m (inFull (shownPrice (formBy (m || full)) (x .price)) (conditionsOf x) (sharesOf (pick (m || shows) (shownOf network unit (x .volume)) unsaid))) (bare (conditionsOf x)) ≡ pick m (inFull (units (x .price)) (conditionsOf x) (x .volume)) (bare (conditionsOf x))
-    go true = rw (full-price (x .price) (h .decimals), shares-back network unit (x .volume))
+    go true = rw (full-price (x .price) (h .owed .price .decimals), shares-back network unit (x .volume))
     go false = refl
 
 -- the end pair is there unless a closing G pair served

@@ -24,7 +24,7 @@ use Rattle.rules.specs.Line.{isNetwork}
 use Rattle.rules.specs.declared.Letters.{Letters}
 use Rattle.rules.specs.declared.Side.{Side}
 use Rattle.print_side.proofs.SideBack.{side-lower}
-use Rattle.claim_compose.specs.Shown.{Enterable, Showable}
+use Rattle.line_owed.specs.Shown.{Enterable, Showable}
 use Rattle.read_name.specs.Name.{nameOn}
 use Rattle.read_name.specs.Head.{lettersAfter, headAt}
 use Rattle.read_name.specs.declared.NameAnswer.{NameAnswer}
@@ -38,7 +38,8 @@ use Rattle.reader.specs.declared.PrintRead.{PrintRead}
 use Rattle.reader.specs.declared.ReadAnswer.{ReadAnswer}
 use Rattle.reader.specs.declared.ReadAnswer.the-variants.{Trade, Refused}
 use Rattle.reader.specs.Read.{tradeSide, tradeHead, tradeAt}
-use Rattle.claim_longest.proofs.SideBack.{some-price, flagOf, shown-n, shown-sold, Reaches, side-reaches}
+use Rattle.claim_longest.proofs.SideBack.{flagOf, shown-n, Reaches, side-reaches}
+use Rattle.line_owed.proofs.Shown.{some-price, shown-sold}
 use Rattle.text.specs.Bytes.{bytes}
 use Rattle.text.specs.Reading.{starts, isDigit, dotDigit}
 use Rattle.text.proofs.Reading.{starts-append}

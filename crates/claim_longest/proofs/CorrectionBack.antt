@@ -22,7 +22,7 @@ use Rattle.rules.specs.Line.{isNetwork}
 use Rattle.rules.specs.declared.Letters.{Letters}
 use Rattle.rules.specs.declared.Side.{Side}
 use Rattle.print_side.proofs.SideBack.{side-lower}
-use Rattle.claim_compose.specs.Shown.{Enterable, Showable}
+use Rattle.line_owed.specs.Shown.{Enterable, Showable}
 use Rattle.read_name.specs.Name.{nameOn}
 use Rattle.read_name.specs.Head.{lettersAfter, headAt}
 use Rattle.read_name.specs.declared.NameAnswer.the-variants.{Named}
@@ -30,7 +30,8 @@ use Rattle.claim_names.proofs.Lawful.{name-lawful}
 use Rattle.claim_names.proofs.Head.{headRead, head-found}
 use Rattle.read_side.specs.declared.Beside.the-variants.{Alone, With}
 use Rattle.read_side.specs.Side.{sideAt}
-use Rattle.claim_longest.proofs.SideBack.{some-price, flagOf, shown-n, shown-sold}
+use Rattle.claim_longest.proofs.SideBack.{flagOf, shown-n}
+use Rattle.line_owed.proofs.Shown.{some-price, shown-sold}
 use Rattle.text.specs.Bytes.{bytes}
 use Rattle.text.specs.Reading.{starts, dotDigit}
 use Rattle.text.proofs.Reading.{starts-append}

@@ -11,7 +11,7 @@ use Rattle.text.specs.Bytes.{bytes}
 use Rattle.text.specs.Pick.{pick, opt, among}
 use Rattle.rules.specs.Conditions.{onNetwork}
 use Rattle.rules.specs.Line.{isNetwork}
-use Rattle.claim_compose.specs.Shown.{Showable}
+use Rattle.line_owed.specs.Shown.{Showable}
 use Rattle.read_volume.specs.Volume.{explains}
 use Rattle.read_side.specs.declared.Beside.the-variants.{Alone, With}
 use Rattle.read_side.specs.declared.SideRead.{SideRead}
@@ -21,7 +21,7 @@ use Rattle.text.specs.Reading.{starts}
 use Rattle.rules.specs.Names.{nameText}
 use Rattle.rules.specs.Conditions.{afterName}
 use Rattle.rules.specs.Side.{sideText}
-use Rattle.claim_compose.specs.Shown.{Enterable}
+use Rattle.line_owed.specs.Shown.{Enterable}
 use Rattle.rules.specs.Correction.{endPair}
 use Rattle.text.proofs.Parts.{starts-front}
 use Rattle.read_name.specs.declared.NameRead.{NameRead}

@@ -1,29 +1,22 @@
 -- The name and the facts of a normal print are determined by its text. Assumes nothing.
-use Prim.Native.Nat.{ℕ, _+_, _-_, _*_, _^_, _≤_, _<_}
-use native.Mathlib.Nat.{zero-mul}
-use native.Mathlib.Omega.{arith}
+use Prim.Native.Nat.{ℕ, _+_}
 use mathlib.Core.Path.{_≡_, refl, sym, ap, _∙_}
-use mathlib.Core.Bool.{Bool, true, false, _&&_, not}
+use mathlib.Core.Bool.{Bool, true, false, not}
 use mathlib.Core.List.{List, [], _++_, append-assoc, append-nil}
 use mathlib.Core.Option.{none, some}
-use lib.Dec.{eqb, leb}
 use lib.ListN.{drop}
-use borrow.Author.Tests.{eqb-true, leb-true}
 use Rattle.text.specs.Bytes.{bytes}
 use Rattle.text.specs.Pick.{pick, opt, all}
 use Rattle.text.specs.Reading.{found, heads, starts, past}
-use Rattle.text.proofs.Texts.{and-left, and-right}
 use Rattle.text.proofs.Reading.{past-append}
 use Rattle.text.proofs.Parts.{heads-append, all-append}
 use Rattle.rules.specs.Tape.{isLetter, isUpper}
-use Rattle.rules.specs.Columns.{between}
 use Rattle.rules.specs.Names.{nameText}
 use Rattle.rules.specs.Price.{units}
 use Rattle.rules.specs.Conditions.{afterName}
 use Rattle.rules.specs.Side.{headText, sideText}
 use Rattle.rules.specs.Announcement.{modeText, levelText}
 use Rattle.rules.specs.Correction.{repeatsName, endPair, cancelText, correctionText, cancelOpening, errorOpening}
-use Rattle.rules.specs.Line.{isPrice}
 use Rattle.rules.specs.Shown.{conditionsOf, Part, inFull}
 use Rattle.rules.specs.NormalPrint.{ReadFact, readAnnouncement, readTrade, readCancel, readError, readCorrection, NormalPrint}
 use Rattle.rules.specs.declared.Letters.{Letters}
@@ -35,68 +28,28 @@ use Rattle.print_conditions.proofs.TailBack.{Ends}
 use Rattle.print_side.specs.Reading.{SideRead, readSide, sideShown}
 use Rattle.print_side.proofs.SideBack.{SideOk, side-back}
 use Rattle.name_back.specs.Plain.{NamePlain}
-use Rattle.name_back.specs.Cut.{sold, last, After, after, plain, afterOf, oneSold, Divided, divide}
+use Rattle.name_back.specs.Cut.{After, after, plain, afterOf, oneSold, Divided, divide}
 use Rattle.name_back.proofs.Back.{name-upper, name-head, name-back, conditions-upper}
-use Rattle.claim_compose.specs.Shown.{Enterable, Showable}
+use Rattle.line_owed.specs.Shown.{Enterable, Showable}
+use Rattle.line_owed.proofs.Shown.{sound-price, shown-owed, shown-sold}
 use Rattle.claim_compose.specs.Printable.{partIn, Printable, by-mode, by-level, by-trade, by-cancel, by-error, by-correction}
 use Rattle.claim_normal.proofs.Normal.{normal-printable}
 use Rattle.claim_decoder.specs.Decode.{conditionsBy, afterBy}
-use Rattle.claim_decoder.specs.Lawful.{LawfulSide}
+use Rattle.claim_decoder.proofs.Lawful.{lawful}
 use Rattle.claim_decoder.proofs.Sides.{conditions-by}
 use Rattle.claim_decoder.proofs.Fresh.{fresh-end, fresh-was}
 use Rattle.claim_decoder.proofs.Undone.{unrepeated, after-run, mode-starts, level-starts}
 use Rattle.claim_longest.proofs.Longest.{not-mark, trade-letter}
-use Rattle.claim_longest.proofs.SideBack.{some-price, sound-price, shown-sold, shown-previous}
 use Rattle.rules.specs.declared.PriceForm.the-variants.{Full}
 
--- ---- a side that a line can have is lawful
-
-below : (n : ℕ) → between 1 999999999 n ≡ true → n < 1000000000
-unfolding between
-below n h = omega (leb-true n 999999999 (and-right (leb 1 n) _ h), arith)
+-- ---- a side that a line can have
 
 module _ (network : ℕ) (x : Side) (h : Showable network x) where
-  days-none : x .letters .r ≡ false → x .days ≡ 0
-  unfolding pick
-  days-none e = eqb-true (x .days) 0 (ap (λ b. pick b (between 1 999 (x .days)) (eqb (x .days) 0)) (sym e) ∙ h .days-fit)
-
-  previous-none : x .letters .g ≡ false → (eqb (x .previous .n) 0 && eqb (x .previous .d) 0) ≡ true
-  unfolding pick
-  previous-none e = ap (λ b. pick b (isPrice (x .previous .n) (x .previous .d)) (eqb (x .previous .n) 0 && eqb (x .previous .d) 0)) (sym e) ∙ h .previous-fits
-
-  few-decimals : x .previous .d ≤ 8
-  few-decimals = go (x .letters .g) refl
-    where
-      go : (g : Bool) → x .letters .g ≡ g → x .previous .d ≤ 8
-      go true e = (sound-price (x .previous) (shown-previous network x h e)) .decimals
-      go false e = omega (eqb-true (x .previous .d) 0 (and-right (eqb (x .previous .n) 0) _ (previous-none e)), arith)
-
-  no-units : x .letters .g ≡ false → units (x .previous) ≡ 0
-  unfolding units
-  no-units e = ap (λ n. n * 10 ^ (8 - x .previous .d)) (eqb-true (x .previous .n) 0 (and-left (eqb (x .previous .n) 0) _ (previous-none e))) ∙ zero-mul _
-
-  volume-below : x .volume < 1000000000
-  volume-below = below (x .volume) (h .volume-fits)
-
-  lawful : LawfulSide x
-  lawful = record {
-    volume = volume-below;
-    price = some-price (x .price) (h .price-fits);
-    decimals = (sound-price (x .price) (h .price-fits)) .decimals;
-    previous = few-decimals;
-    sold = shown-sold network x h;
-    days = days-none;
-    last = no-units;
-  }
-
   side-ok : (text : List ℕ) → all isUpper text ≡ true → SideOk text x
   unfolding headText
   side-ok text u = record {
     upper = all-append isUpper text (afterName (x .letters)) u (conditions-upper (x .letters));
-    volume = volume-below;
-    price = some-price (x .price) (h .price-fits);
-    decimals = (sound-price (x .price) (h .price-fits)) .decimals;
-    previous = few-decimals;
+    owed = shown-owed network x h;
   }
 
 -- ---- what a text tells

@@ -30,14 +30,14 @@ use Rattle.print_side.specs.Reading.{readSide}
 use Rattle.print_announcement.specs.Reading.{Told, readAnnouncement}
 use Rattle.print_announcement.proofs.Back.{mode-back, level-back}
 use Rattle.name_back.proofs.Parts.{front-is}
-use Rattle.claim_compose.specs.Shown.{Enterable, Showable}
+use Rattle.line_owed.specs.Shown.{Enterable, Showable}
 use Rattle.claim_compose.specs.Printable.{Printable, by-mode, by-level, by-trade, by-cancel, by-error, by-correction}
 use Rattle.claim_normal.proofs.Normal.{normal-printable}
 use Rattle.claim_decoder.specs.Decode.{ended}
 use Rattle.claim_decoder.proofs.Fresh.{Fresh, fresh-end, fresh-pair, fresh-was, side-fresh}
 use Rattle.claim_decoder.proofs.Undone.{end-of, end-ends, mode-starts, level-starts}
 use Rattle.claim_longest.proofs.Longest.{not-mark, trade-letter}
-use Rattle.claim_longest.proofs.SideBack.{some-price}
+use Rattle.line_owed.proofs.Shown.{some-price}
 use Rattle.claim_longest.proofs.Determined.{read-side, read-second, parts}
 use Rattle.rules.specs.declared.PriceForm.the-variants.{Full}
 

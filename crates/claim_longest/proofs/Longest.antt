@@ -5,21 +5,20 @@ use mathlib.Core.Path.{_≡_, refl, sym, ap, _∙_, subst}
 use mathlib.Core.Bool.{Bool, true, false, _&&_}
 use mathlib.Core.List.{List, [], _∷_, _++_, append-assoc}
 use lib.Dec.{eqb, leb}
-use borrow.Author.Tests.{eqb-false, leb-true}
+use borrow.Author.Tests.{eqb-false}
 use mathlib.Core.Option.{Option, none, some}
 use lib.ListN.{length, take, drop}
 use Rattle.claim_decoder.proofs.Fresh.{letter-unlike}
 use Rattle.claim_decoder.proofs.Undone.{mode-starts, level-starts}
 use Rattle.text.specs.Bytes.{bytes}
 use Rattle.text.specs.Pick.{pick, opt}
-use Rattle.text.proofs.Texts.{and-left, and-right}
 use Rattle.text.proofs.Tests.{is-le}
 use Rattle.rules.specs.Columns.{between}
 use Rattle.rules.specs.Price.{priceText}
 use Rattle.rules.specs.Volume.{volumeText}
 use Rattle.rules.specs.Side.{tailText}
 use Rattle.rules.specs.declared.Side.{Side}
-use Rattle.claim_compose.specs.Shown.{Showable}
+use Rattle.line_owed.specs.Shown.{Showable}
 use Rattle.read_side.specs.declared.Beside.the-variants.{Alone, With}
 use Rattle.read_side.specs.declared.SideRead.{SideRead}
 use Rattle.read_side.specs.declared.SideAnswer.{SideAnswer}
@@ -30,7 +29,8 @@ use Rattle.rules.specs.Names.{nameText}
 use Rattle.rules.specs.Conditions.{afterName}
 use Rattle.rules.specs.Side.{headText, sideText}
 use Rattle.rules.specs.NormalPrint.{ReadFact}
-use Rattle.claim_compose.specs.Shown.{Enterable}
+use Rattle.line_owed.specs.Shown.{Enterable}
+use Rattle.line_owed.proofs.Below.{in-range}
 use Rattle.claim_compose.specs.Printable.{partIn, Printable, by-trade}
 use Rattle.rules.specs.Correction.{cancelText}
 use Rattle.read_name.specs.Head.{headAt}
@@ -267,10 +267,6 @@ unfolding announcedBy pick lengthOf
 announced-length t R a s =
     let z : eqb (length t) 0 ≡ false = sym (is-ne (length t) 0 (λ e. omega (e, announced-some t a, arith))) in
     rw (first-announced (t ++ R) s, announced-back t R a, z) (omega arith)
-
-pub in-range : (low high n : ℕ) → between low high n ≡ true → (low ≤ n) × (n ≤ high)
-unfolding between
-in-range low high n h = (leb-true low n (and-left (leb low n) _ h), leb-true n high (and-right (leb low n) _ h))
 
 front-first : (n a v p t r : List ℕ) → ((n ++ a) ++ v ++ p ++ t) ++ r ≡ n ++ (a ++ (v ++ (p ++ (t ++ r))))
 front-first n a v p t r = simp append-assoc

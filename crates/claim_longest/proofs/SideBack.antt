@@ -16,13 +16,14 @@ use Rattle.rules.specs.Price.{priceText}
 use Rattle.rules.specs.Volume.{volumeText}
 use Rattle.rules.specs.Conditions.{onNetwork}
 use Rattle.rules.specs.Side.{tailText}
-use Rattle.rules.specs.Line.{isPrice, isUnit, isNetwork}
+use Rattle.rules.specs.Line.{isUnit, isNetwork}
 use Rattle.rules.specs.declared.Letters.{Letters}
 use Rattle.rules.specs.declared.Price.{Price}
 use Rattle.rules.specs.declared.Side.{Side}
 use Rattle.print_price.specs.Sound.{Sound}
 use Rattle.name_back.specs.Cut.{oneSold}
-use Rattle.claim_compose.specs.Shown.{letterCount, oneDelivery, showable, Showable}
+use Rattle.line_owed.specs.Shown.{letterCount, oneDelivery, showable, Showable}
+use Rattle.line_owed.proofs.Shown.{some-price, sound-price, shown-previous}
 use Rattle.read_price.specs.declared.PriceRead.{PriceRead}
 use Rattle.read_price.specs.declared.PriceAnswer.{PriceAnswer}
 use Rattle.read_price.specs.declared.PriceAnswer.the-variants.{Priced, NoPrice}
@@ -43,14 +44,14 @@ use Rattle.read_side.specs.declared.SideAnswer.{SideAnswer}
 use Rattle.rules.specs.declared.Refusal.the-variants.{NoPrint}
 use Rattle.read_side.specs.declared.SideAnswer.the-variants.{Sided, Refused as Unsided}
 use Rattle.read_side.specs.Side.{headCount, beside, sidedBy, sideWith, saidSide, orElse, sideAt}
-use borrow.Author.Tests.{eqb-true, leb-true, ltb-true, not-true}
+use borrow.Author.Tests.{eqb-true, leb-true, not-true}
 use Rattle.text.specs.Reading.{heads, isDigit, dotDigit}
 use Rattle.text.proofs.Booleans.{implied, and-off, or-true, and-both, false-true, or-cases}
 use Rattle.rules.specs.Conditions.{sellerText, previousText, afterPrice, atEnd}
 use Rattle.print_price.proofs.PriceBack.{NoMore}
 use Rattle.read_price.proofs.PriceBack.{PriceAgain, price-again}
 use Rattle.read_volume.proofs.VolumeBack.{VolumeAgain, volume-again, volume-empty}
-use Rattle.claim_compose.specs.Shown.{one}
+use Rattle.line_owed.specs.Shown.{one}
 use Rattle.claim_longest.proofs.Side.{beginning, sideIn, no-side}
 use Rattle.claim_longest.proofs.Tail.{tail-forward, fromAverage, sizeAverage, May, covers-tail}
 use Rattle.claim_longest.proofs.Figures.{volume-beyond}
@@ -149,14 +150,6 @@ pub none-one : one false ≡ 0
 unfolding pick
 none-one = refl
 
-pub sound-price : (p : Price) → isPrice (p .n) (p .d) ≡ true → Sound p
-unfolding isPrice
-sound-price p h = let k = and-right (leb 1 (p .n)) _ h in record { decimals = leb-true (p .d) 8 (and-left (leb (p .d) 8) _ k); small = ltb-true (p .n) (10 ^ (6 + p .d)) (and-right (leb (p .d) 8) _ k) }
-
-pub some-price : (p : Price) → isPrice (p .n) (p .d) ≡ true → 1 ≤ p .n
-unfolding isPrice
-some-price p h = leb-true 1 (p .n) (and-left (leb 1 (p .n)) _ h)
-
 unfoldable pub flagOf : ℕ → Bool → Bool → Bool
 flagOf network a b = pick (eqb network 65) a b
 
@@ -179,9 +172,6 @@ module _ (network : ℕ) (x : Side) (h : Showable network x) where
 
   pub shown-few : letterCount (x .letters) ≤ 4
   shown-few = leb-true (letterCount (x .letters)) 4 (and-left (leb (letterCount (x .letters)) 4) _ fit₃)
-
-  pub shown-sold : oneSold (x .letters) ≡ true
-  shown-sold = and-left (oneSold (x .letters)) _ (and-right (leb (letterCount (x .letters)) 4) _ fit₃)
 
   delivery : (not (x .letters .m && x .letters .k) && (not (x .letters .m && x .letters .r) && not (x .letters .k && x .letters .r))) ≡ true
   unfolding oneDelivery
@@ -218,10 +208,6 @@ module _ (network : ℕ) (x : Side) (h : Showable network x) where
       let d = ap (λ b. pick b (leb 1 (x .days) && leb (x .days) 999) (eqb (x .days) 0)) (sym e) ∙ h .days-fit in
       days-in (x .days) d
 
-  pub shown-previous : x .letters .g ≡ true → isPrice (x .previous .n) (x .previous .d) ≡ true
-  unfolding pick
-  shown-previous e = ap (λ b. pick b (isPrice (x .previous .n) (x .previous .d)) (eqb (x .previous .n) 0 && eqb (x .previous .d) 0)) (sym e) ∙ h .previous-fits
-
   module _ (v : Volume) (used : ℕ) (a b : Bool) (f : flagOf network a b ≡ true) where
     abbrev L : Letters
     L = lettersAfter (x .letters .m) (x .letters .o) (x .letters .s) (x .letters .l)
@@ -236,8 +222,8 @@ module _ (network : ℕ) (x : Side) (h : Showable network x) where
       rule-on-a = λ e. ap (λ t. pick t a b) (sym (rule-network e)) ∙ f;
       previous-on-b = λ e. ap (λ n. pick (eqb n 65) a b) (sym (eqb-true network 66 (previous-network e))) ∙ f;
       apart = apart-jg;
-      sound = λ e. sound-price (x .previous) (shown-previous e);
-      some = λ e. some-price (x .previous) (shown-previous e);
+      sound = λ e. sound-price (x .previous) (shown-previous network x h e);
+      some = λ e. some-price (x .previous) (shown-previous network x h e);
     }
 
     -- the tail is covered, whatever price was read of it

@@ -16,7 +16,7 @@ use Rattle.rules.specs.Line.{isUnit, isNetwork}
 use Rattle.rules.specs.declared.Letters.{Letters}
 use Rattle.rules.specs.declared.Price.{Price}
 use Rattle.rules.specs.declared.Side.{Side}
-use Rattle.claim_compose.specs.Shown.{letterCount, Showable}
+use Rattle.line_owed.specs.Shown.{letterCount, Showable}
 use Rattle.read_price.specs.declared.PriceRead.{PriceRead}
 use Rattle.read_volume.specs.declared.Volume.{Volume}
 use Rattle.read_volume.specs.declared.Volume.the-variants.{Unsaid}
@@ -36,12 +36,13 @@ use Rattle.rules.specs.Conditions.{sellerText, previousText}
 use Rattle.print_price.proofs.PriceBack.{NoMore}
 use Rattle.read_price.proofs.PriceBack.{price-again}
 use Rattle.read_volume.proofs.VolumeBack.{volume-again, volume-empty}
-use Rattle.claim_compose.specs.Shown.{one}
+use Rattle.line_owed.specs.Shown.{one}
 use Rattle.claim_longest.proofs.Side.{beginning}
 use Rattle.claim_longest.proofs.Tail.{fromAverage}
 use Rattle.claim_longest.proofs.Figures.{unmarked, unmarked-tail, no-volume}
 use Rattle.claim_longest.proofs.TailExact.{Ended, Begins, TailEnd, ended, more, tail-ends, lettersBefore}
-use Rattle.claim_longest.proofs.SideBack.{some-not-none, none-one, unit-explains, tail-parts, tail-size, still-with, one-flag, flagOf, some-price, sound-price, shown-n, shown-c, shown-few, apart-mk, apart-mr, apart-kr, apart-jg, rule-network, previous-network, shown-days, shown-previous}
+use Rattle.claim_longest.proofs.SideBack.{some-not-none, none-one, unit-explains, tail-parts, tail-size, still-with, one-flag, flagOf, shown-n, shown-c, shown-few, apart-mk, apart-mr, apart-kr, apart-jg, rule-network, previous-network, shown-days}
+use Rattle.line_owed.proofs.Shown.{some-price, sound-price, shown-previous}
 use Rattle.rules.specs.declared.PriceForm.the-variants.{Full}
 
 -- what stands behind a side that ends: no condition, no digit, no figure dot before one, and no mark behind figures

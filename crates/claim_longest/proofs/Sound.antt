@@ -18,7 +18,7 @@ use Rattle.rules.specs.Line.{isNetwork}
 use Rattle.rules.specs.declared.Letters.{Letters}
 use Rattle.rules.specs.declared.Side.{Side}
 use Rattle.name_back.specs.Cut.{oneSold}
-use Rattle.claim_compose.specs.Shown.{Showable}
+use Rattle.line_owed.specs.Shown.{Showable}
 use Rattle.read_volume.specs.Volume.{saidText, explains}
 use Rattle.read_volume.proofs.Shown.{explained-text}
 use Rattle.read_name.specs.Head.{lettersAfter}
@@ -33,7 +33,7 @@ use Rattle.rules.specs.Conditions.{afterName}
 use Rattle.rules.specs.Side.{headText, sideText}
 use Rattle.rules.specs.Shown.{conditionsOf}
 use Rattle.rules.specs.NormalPrint.{readTrade}
-use Rattle.claim_compose.specs.Shown.{Enterable}
+use Rattle.line_owed.specs.Shown.{Enterable}
 use Rattle.claim_compose.specs.Printable.{Printable, by-trade}
 use Rattle.rules.specs.Correction.{endPair, cancelText}
 use Rattle.text.proofs.Parts.{starts-front}

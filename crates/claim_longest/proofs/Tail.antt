@@ -22,7 +22,7 @@ use Rattle.rules.specs.declared.Price.{Price}
 use Rattle.rules.specs.declared.Side.{Side}
 use Rattle.text.proofs.Booleans.{false-true, eqb-flip}
 use Rattle.print_price.specs.Sound.{Sound}
-use Rattle.claim_compose.specs.Shown.{one}
+use Rattle.line_owed.specs.Shown.{one}
 use Rattle.read_price.specs.declared.Digits.{Digits}
 use Rattle.read_price.specs.declared.PriceRead.{PriceRead}
 use Rattle.read_price.specs.declared.PriceAnswer.{PriceAnswer}

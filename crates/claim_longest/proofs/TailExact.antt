@@ -17,7 +17,7 @@ use Rattle.rules.specs.Conditions.{sellerText, previousText}
 use Rattle.rules.specs.declared.Letters.{Letters}
 use Rattle.rules.specs.declared.Price.{Price}
 use Rattle.print_price.specs.Sound.{Sound}
-use Rattle.claim_compose.specs.Shown.{one}
+use Rattle.line_owed.specs.Shown.{one}
 use Rattle.read_price.specs.declared.PriceRead.{PriceRead}
 use Rattle.read_price.specs.declared.PriceAnswer.{PriceAnswer}
 use Rattle.read_price.specs.declared.PriceAnswer.the-variants.{Priced, NoPrice}

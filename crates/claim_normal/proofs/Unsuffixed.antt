@@ -12,7 +12,7 @@ use Rattle.rules.specs.Columns.{between, word, blank, isBlank, filled, leftJust
 use Rattle.rules.specs.Line.{isPrintable}
 use Rattle.rules.specs.Names.{rootField, suffixField, temporaryField, appendageField, partText, nameText, lawfulField, lawfulName, isReserved, isSuffix, isTemporary, isAppendage}
 use Rattle.text.proofs.Booleans.{false-true}
-use Rattle.claim_compose.specs.Shown.{Enterable}
+use Rattle.line_owed.specs.Shown.{Enterable}
 
 -- a name of 19 columns
 data Nineteen : List ℕ → Type 0 where

@@ -18,9 +18,9 @@ use Rattle.rules.specs.declared.Line.the-variants.{Dated, Listed, Moded, Levele
 use Rattle.rules.specs.declared.Refusal.{Refusal}
 use Rattle.text.proofs.Booleans.{false-true}
 use Rattle.claim_compose.proofs.Prints.{printable-normal}
-use Rattle.claim_normal.specs.Invariant.{Invariant}
+use Rattle.line_owed.specs.Reached.{Reached}
 use Rattle.claim_normal.proofs.Views.{day-printable}
-use Rattle.claim_normal.proofs.Days.{held-fresh, held-after}
+use Rattle.line_owed.proofs.Reached.{kept-fresh, kept-call}
 use Rattle.claim_calls.proofs.Runs.{fresh-run}
 use Rattle.claim_longest.specs.Tape.{Reading, Prints, blank, onward, readings}
 use Rattle.claim_longest.proofs.Tape.{tape-back}
@@ -64,7 +64,7 @@ silent day (Corrected c) e = unprinted _ _ _ e
 
 -- ---- one call
 
-module _ (day : Day) (h : Invariant day) (normal : day .settings .mode ≡ Normal) (c : Call) where
+module _ (day : Day) (h : Reached day) (normal : day .settings .mode ≡ Normal) (c : Call) where
   -- a call that shows nothing leaves the tape as it is
   none-printed : shownBy day c ≡ none → tapeOf day c ≡ []
   unfolding shownBy tapeOf
@@ -90,14 +90,14 @@ module _ (day : Day) (h : Invariant day) (normal : day .settings .mode ≡ Norma
 
 -- ---- the whole day
 
-all-prints : (day : Day) (cs : List Call) → Invariant day → InNormal day cs → Prints (tape day cs) (printedFrom day cs)
+all-prints : (day : Day) (cs : List Call) → Reached day → InNormal day cs → Prints (tape day cs) (printedFrom day cs)
 unfolding tape printedFrom
 all-prints day _ h (no-call _) = blank
-all-prints day _ h (a-call _ c cs n m) = one-call day h n c (all-prints (after day c) cs (held-after day c h) m) (shownBy day c) refl
+all-prints day _ h (a-call _ c cs n m) = one-call day h n c (all-prints (after day c) cs (kept-call day c h) m) (shownBy day c) refl
 
 -- A DAY IN NORMAL MODE IS READ BACK FROM ITS TAPE
 pub normal-day : (cs : List Call) → InNormal fresh cs → readings (length (tape fresh cs)) (tape fresh cs) ≡ printedFrom fresh cs
-normal-day cs n = tape-back (length (tape fresh cs)) (all-prints fresh cs held-fresh n) (omega arith)
+normal-day cs n = tape-back (length (tape fresh cs)) (all-prints fresh cs kept-fresh n) (omega arith)
 
 -- its facts are the day's shown facts
 fact-of : Reading → ReadFact

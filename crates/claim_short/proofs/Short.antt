@@ -13,33 +13,22 @@ use Rattle.rules.specs.Correction.{repeatsName, cancelText, correctionText, can
 use Rattle.rules.specs.NormalPrint.{ReadFact, NormalPrint}
 use Rattle.rules.specs.declared.Side.{Side}
 use Rattle.rules.specs.Sizes.{longestPrint}
-use Rattle.print_side.proofs.Short.{Short, side-short}
+use Rattle.print_side.proofs.Short.{side-short}
 use Rattle.read_announcement.specs.Announced.{mode, level}
 use Rattle.read_announcement.proofs.Back.{announced-most}
 use Rattle.name_text.proofs.Text.{name-most}
-use Rattle.claim_compose.specs.Shown.{Showable}
+use Rattle.line_owed.specs.Shown.{Showable}
 use Rattle.claim_compose.specs.Printable.{Printable, by-mode, by-level, by-trade, by-cancel, by-error, by-correction}
-use Rattle.claim_compose.proofs.Sides.{below-power, few-decimals, volume-small, days-small, PreviousFits, previous-small, previous-few}
+use Rattle.line_owed.proofs.Below.{in-range}
+use Rattle.line_owed.proofs.Shown.{shown-owed}
 use Rattle.claim_normal.proofs.Normal.{normal-printable}
 use Rattle.claim_longest.proofs.CancelBack.{pair-short}
-use Rattle.claim_longest.proofs.Longest.{in-range}
 use Rattle.rules.specs.declared.PriceForm.the-variants.{Full}
 
 module _ (network : ℕ) (x : Side) (h : Showable network x) where
-  shown-short : Short x
-  unfolding PreviousFits
-  shown-short = record {
-    volume-is = omega (arith, volume-small (x .volume) (h .volume-fits));
-    price-is = omega (arith, below-power (x .price .d) (x .price .n) (h .price-fits));
-    decimals-are = few-decimals (x .price .d) (x .price .n) (h .price-fits);
-    days-are = omega (arith, days-small (x .letters .r) (x .days) (h .days-fit));
-    previous-is = omega (arith, previous-small (x .letters .g) (x .previous .n) (x .previous .d) (h .previous-fits));
-    previous-decimals = previous-few (x .letters .g) (x .previous .n) (x .previous .d) (h .previous-fits);
-  }
-
   -- with a name of at most 22 bytes
   side-most : (name : List ℕ) (unit : ℕ) → length name ≤ 22 → length (sideText name network unit Full true x) ≤ 183
-  side-most name unit l = omega (arith, side-short x shown-short name network unit Full true)
+  side-most name unit l = omega (arith, side-short x (shown-owed network x h) name network unit Full true)
 
   -- the name may be left out
   again-most : (name : List ℕ) (unit : ℕ) → length name ≤ 22 → (b : Bool) → length (sideText (opt b name) network unit Full true x) ≤ 183

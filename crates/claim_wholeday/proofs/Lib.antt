@@ -1,6 +1,3 @@
-pub mod Lines
-pub mod Accepted
-pub mod Kept
 pub mod Prints
 pub mod Decoded
 pub mod Lists

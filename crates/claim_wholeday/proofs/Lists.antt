@@ -17,17 +17,17 @@ use Rattle.rules.specs.Shown.{factOf, shownBy}
 use Rattle.rules.specs.Premise.{falls, callFalls, Premise}
 use Rattle.rules.specs.declared.Line.{Line}
 use Rattle.rules.specs.declared.Line.the-variants.{Listed}
-use Rattle.rules.specs.declared.Parsed.{Parsed}
 use Rattle.rules.specs.declared.Refusal.{Refusal}
-use Rattle.claim_wholeday.specs.Accepted.{AcceptedListing, Accepted}
-use Rattle.claim_wholeday.specs.Invariant.{atPlace, named, Invariant, Later}
+use Rattle.line_owed.specs.Owed.{kindOf}
+use Rattle.line_owed.specs.Accepted.{AcceptedListing, AcceptedLine}
+use Rattle.line_owed.specs.Reached.{atPlace, named, Reached, Later}
+use Rattle.line_owed.proofs.Owed.{lettered}
+use Rattle.line_owed.proofs.Accepted.{accepted}
+use Rattle.line_owed.proofs.Reached.{kept-call, later-same, later-trans, later-line, entered-now, named-now, entered-before, entered-same}
 use Rattle.claim_wholeday.specs.Decodes.{Decodes, AllDecode, dayAfter}
 use Rattle.claim_wholeday.specs.Claim.{accepts, acceptedOf}
-use Rattle.claim_wholeday.proofs.Accepted.{fine}
-use Rattle.claim_wholeday.proofs.Kept.{NotDate, NotListed, kept-line, later-same, later-trans, entered-now, named-now, entered-before, entered-same}
 use Rattle.claim_wholeday.proofs.Prints.{line-owed}
 use Rattle.text.proofs.Booleans.{same-or-not, false-true}
-use Rattle.rules.proofs.ByKind.{by-kind}
 
 -- ---- one call, refused or accepted
 
@@ -73,40 +73,33 @@ module _ (day : Day) (c : Call) where
     unfolding callFalls
     falls-taken = rw (e, callFalls)
 
--- a line of another kind than D is no date
-not-date : (kind : ℕ) (line : List ℕ) → eqb kind 68 ≡ false → NotDate ((ofKind kind line) .line)
-unfolding NotDate
-not-date kind line e =
-    by-kind (λ (p : Parsed). NotDate (p .line)) kind line (λ k. absurd (false-true (sym e ∙ k)))
-    (λ k. tt)
-    (λ k. tt)
-    (λ k. tt)
-    (λ k. tt)
-    (λ k. tt)
-    (λ k. tt)
-    (λ k. tt)
-    tt
+fine : (day : Day) (line : List ℕ) (room : ℕ) → refusalOf day line room ≡ none → AcceptedLine day (nameColumns line) (lineOf line)
+fine day line room e = accepted day line room e .owes
 
-module _ (day : Day) (c : Call) (k : Invariant day) (n : (accepts day c && eqb (column 1 (c .line)) 68) ≡ false) where
-  other-kind : refusalOf day (c .line) (c .room) ≡ none → NotDate (lineOf (c .line))
-  unfolding lineOf
-  other-kind e = not-date (column 1 (c .line)) (c .line) (ap (λ (b : Bool). b && eqb (column 1 (c .line)) 68) (sym (accepted-yes day c e)) ∙ n)
+-- a line of another letter is of another kind
+not-kind : (kind : ℕ) (line : List ℕ) → (kind ≡ 67 → ⊥) → eqb (column 1 line) kind ≡ false → kindOf (lineOf line) ≡ kind → ⊥
+unfolding lineOf
+not-kind kind line z e k = false-true (sym e ∙ (ap (eqb (column 1 line)) (sym k) ∙ lettered (column 1 line) line (λ q. z (sym k ∙ q))))
 
-  kept-call : Invariant (after day c) × Later day (after day c)
-  kept-call = go (refusalOf day (c .line) (c .room)) refl
+module _ (day : Day) (c : Call) (k : Reached day) (n : (accepts day c && eqb (column 1 (c .line)) 68) ≡ false) where
+  other-kind : refusalOf day (c .line) (c .room) ≡ none → kindOf (lineOf (c .line)) ≡ 68 → ⊥
+  other-kind e = not-kind 68 (c .line) (λ q. omega (q, arith)) (ap (λ (b : Bool). b && eqb (column 1 (c .line)) 68) (sym (accepted-yes day c e)) ∙ n)
+
+  later-call : Later day (after day c)
+  later-call = go (refusalOf day (c .line) (c .room)) refl
     where
-      go : (o : Option Refusal) → refusalOf day (c .line) (c .room) ≡ o → Invariant (after day c) × Later day (after day c)
-      go (some r) e = rw (after-refused day c r e) (k, later-same day)
-      go none e = rw (after-taken day c e) (kept-line day (nameColumns (c .line)) (lineOf (c .line)) k (fine day (c .line) (c .room) e) (other-kind e))
+      go : (o : Option Refusal) → refusalOf day (c .line) (c .room) ≡ o → Later day (after day c)
+      go (some r) e = rw (after-refused day c r e) (later-same day)
+      go none e = rw (after-taken day c e) (later-line day (nameColumns (c .line)) (lineOf (c .line)) k (fine day (c .line) (c .room) e) (other-kind e))
 
-  call-owed : (e : Day) → Invariant e → Later (after day c) e → callFalls day c ≡ false → Decodes (e .names) day (after day c) (tapeOf day c) (shownBy day c)
+  call-owed : (e : Day) → Reached e → Later (after day c) e → callFalls day c ≡ false → Decodes (e .names) day (after day c) (tapeOf day c) (shownBy day c)
   call-owed e z y w = go (refusalOf day (c .line) (c .room)) refl
     where
       go : (o : Option Refusal) → refusalOf day (c .line) (c .room) ≡ o → Decodes (e .names) day (after day c) (tapeOf day c) (shownBy day c)
       go (some r) q = rw (after-refused day c r q, tape-refused day c r q, shown-refused day c r q) (record { no-text = refl; stays = refl })
       go none q =
           rw (after-taken day c q, tape-taken day c q, shown-taken day c q)
-          (line-owed day e (nameColumns (c .line)) (lineOf (c .line)) z (later-trans day (after day c) e (kept-call .1) y) (fine day (c .line) (c .room) q) (other-kind q) (sym (falls-taken day c q) ∙ w))
+          (line-owed day e (nameColumns (c .line)) (lineOf (c .line)) z (later-trans day (after day c) e later-call y) (fine day (c .line) (c .room) q) (other-kind q) (sym (falls-taken day c q) ∙ w))
 
 -- ---- a list without a date line
 
@@ -131,21 +124,23 @@ module _ (day : Day) (c : Call) (cs : List Call) (n : acceptedOf 68 day (c ∷ c
   unfolding acceptedOf
   no-date-later = none-of (accepts day c && eqb (column 1 (c .line)) 68) (c .line) (acceptedOf 68 (after day c) cs) n .1
 
-pub kept-run : (cs : List Call) (day : Day) → Invariant day → acceptedOf 68 day cs ≡ [] → Invariant (dayAfter day cs) × Later day (dayAfter day cs)
+pub kept-run : (cs : List Call) (day : Day) → Reached day → Reached (dayAfter day cs)
 unfolding dayAfter
-kept-run [] day k n = (k, later-same day)
-kept-run (c ∷ cs) day k n =
-    let a = kept-call day c k (no-date-now day c cs n) in
-    let b = kept-run cs (after day c) (a .0) (no-date-later day c cs n) in
-    (b .0, later-trans day (after day c) (dayAfter (after day c) cs) (a .1) (b .1))
+kept-run [] day k = k
+kept-run (c ∷ cs) day k = kept-run cs (after day c) (kept-call day c k)
 
-pub all-owed : (cs : List Call) (day : Day) → Invariant day → acceptedOf 68 day cs ≡ [] → Premise day cs → AllDecode ((dayAfter day cs) .names) day cs
+later-run : (cs : List Call) (day : Day) → Reached day → acceptedOf 68 day cs ≡ [] → Later day (dayAfter day cs)
+unfolding dayAfter
+later-run [] day k n = later-same day
+later-run (c ∷ cs) day k n = later-trans day (after day c) (dayAfter (after day c) cs) (later-call day c k (no-date-now day c cs n)) (later-run cs (after day c) (kept-call day c k) (no-date-later day c cs n))
+
+pub all-owed : (cs : List Call) (day : Day) → Reached day → acceptedOf 68 day cs ≡ [] → Premise day cs → AllDecode ((dayAfter day cs) .names) day cs
 unfolding dayAfter
 all-owed [] day k n w = tt
 all-owed (c ∷ cs) day k n w =
-    let a = kept-call day c k (no-date-now day c cs n) in
-    let b = kept-run cs (after day c) (a .0) (no-date-later day c cs n) in
-    (call-owed day c k (no-date-now day c cs n) (dayAfter (after day c) cs) (b .0) (b .1) (w .0), all-owed cs (after day c) (a .0) (no-date-later day c cs n) (w .1))
+    let a = kept-call day c k in
+    let z = no-date-later day c cs n in
+    (call-owed day c k (no-date-now day c cs n) (dayAfter (after day c) cs) (kept-run cs (after day c) a) (later-run cs (after day c) a z) (w .0), all-owed cs (after day c) a z (w .1))
 
 -- ---- the names come from the accepted S lines
 
@@ -165,19 +160,19 @@ unfolding ofKind pick
 listed-is kind line h = let e = eqb-true kind 83 h in rw e
 
 fine-listing : (day : Day) (c : Call) → refusalOf day (c .line) (c .room) ≡ none → eqb (column 1 (c .line)) 83 ≡ true → AcceptedListing day (nameColumns (c .line)) (listingOf (c .line))
-unfolding Accepted lineOf
-fine-listing day c e q = subst (λ (z : Line). Accepted day (nameColumns (c .line)) z) (listed-is (column 1 (c .line)) (c .line) q) (fine day (c .line) (c .room) e)
+unfolding AcceptedLine lineOf
+fine-listing day c e q = subst (λ (z : Line). AcceptedLine day (nameColumns (c .line)) z) (listed-is (column 1 (c .line)) (c .line) q) (fine day (c .line) (c .room) e)
 
 after-listing : (day : Day) (c : Call) → refusalOf day (c .line) (c .room) ≡ none → eqb (column 1 (c .line)) 83 ≡ true → after day c ≡ afterLine day (nameColumns (c .line)) (Listed (listingOf (c .line)))
 unfolding lineOf
 after-listing day c e q = after-taken day c e ∙ ap (afterLine day (nameColumns (c .line))) (listed-is (column 1 (c .line)) (c .line) q)
 
-stands-now : (day : Day) (c : Call) → Invariant day → refusalOf day (c .line) (c .room) ≡ none → eqb (column 1 (c .line)) 83 ≡ true → Stands (after day c) (c .line)
+stands-now : (day : Day) (c : Call) → Reached day → refusalOf day (c .line) (c .room) ≡ none → eqb (column 1 (c .line)) 83 ≡ true → Stands (after day c) (c .line)
 stands-now day c k e q =
     let f = fine-listing day c e q in
     let a = after-listing day c e q in
     record {
-      inside = omega (arith, f .low, f .high);
+      inside = omega (arith, f .owed .low, f .owed .high);
       is-entered = rw a (entered-now day k (nameColumns (c .line)) (listingOf (c .line)) f);
       is-named = rw a (named-now day k (nameColumns (c .line)) (listingOf (c .line)) f);
     }
@@ -199,38 +194,25 @@ member-first true line x rest h = go (same line x) refl h
 member-first false line x rest h = inr h
 
 -- an accepted S line stands at the end
-pub stands-at-end : (cs : List Call) (day : Day) (line : List ℕ) → Invariant day → acceptedOf 68 day cs ≡ [] → member line (acceptedOf 83 day cs) ≡ true → Stands (dayAfter day cs) line
+pub stands-at-end : (cs : List Call) (day : Day) (line : List ℕ) → Reached day → acceptedOf 68 day cs ≡ [] → member line (acceptedOf 83 day cs) ≡ true → Stands (dayAfter day cs) line
 unfolding acceptedOf dayAfter member
 stands-at-end [] day line k n m = absurd (false-true m)
 stands-at-end (c ∷ cs) day line k n m =
-    let a = kept-call day c k (no-date-now day c cs n) in
+    let a = kept-call day c k in
     let z = no-date-later day c cs n in
     ⊎-elim
     (λ (h : ((accepts day c && eqb (column 1 (c .line)) 83) ≡ true) × (line ≡ c .line)).
     let free = accepted-free day c (and-left (accepts day c) (eqb (column 1 (c .line)) 83) (h .0)) in
-    stands-later (after day c) (dayAfter (after day c) cs) line (kept-run cs (after day c) (a .0) z .1)
+    stands-later (after day c) (dayAfter (after day c) cs) line (later-run cs (after day c) a z)
     (rw (h .1) (stands-now day c k free (and-right (accepts day c) (eqb (column 1 (c .line)) 83) (h .0)))))
-    (λ (h : member line (acceptedOf 83 (after day c) cs) ≡ true). stands-at-end cs (after day c) line (a .0) z h)
+    (λ (h : member line (acceptedOf 83 (after day c) cs) ≡ true). stands-at-end cs (after day c) line a z h)
     (member-first (accepts day c && eqb (column 1 (c .line)) 83) line (c .line) (acceptedOf 83 (after day c) cs) m)
 
 -- and each security at the end is one of the first day's, or comes from such a line
 abbrev pub From : List (List ℕ) → ℕ → Type 0
 From lines i = (line : List ℕ) × (member line lines ≡ true) × (place line ≡ i)
 
-not-listed : (kind : ℕ) (line : List ℕ) → eqb kind 83 ≡ false → NotListed ((ofKind kind line) .line)
-unfolding NotListed
-not-listed kind line e =
-    by-kind (λ (p : Parsed). NotListed (p .line)) kind line (λ k. tt)
-    (λ k. absurd (false-true (sym e ∙ k)))
-    (λ k. tt)
-    (λ k. tt)
-    (λ k. tt)
-    (λ k. tt)
-    (λ k. tt)
-    (λ k. tt)
-    tt
-
-entered-call : (day : Day) (c : Call) (i : ℕ) → Invariant day → (accepts day c && eqb (column 1 (c .line)) 68) ≡ false → isEntered (atPlace (after day c) i) ≡ true → (isEntered (atPlace day i) ≡ true) ⊎ (((accepts day c && eqb (column 1 (c .line)) 83) ≡ true) × (place (c .line) ≡ i))
+entered-call : (day : Day) (c : Call) (i : ℕ) → Reached day → (accepts day c && eqb (column 1 (c .line)) 68) ≡ false → isEntered (atPlace (after day c) i) ≡ true → (isEntered (atPlace day i) ≡ true) ⊎ (((accepts day c && eqb (column 1 (c .line)) 83) ≡ true) × (place (c .line) ≡ i))
 unfolding lineOf
 entered-call day c i k n h = go (refusalOf day (c .line) (c .room)) (eqb (column 1 (c .line)) 83) refl refl
   where
@@ -240,7 +222,7 @@ entered-call day c i k n h = go (refusalOf day (c .line) (c .room)) (eqb (column
         (λ (s : i ≡ place (c .line)). inr (rw (accepted-yes day c e, q), sym s))
         (λ (s : i ≡ place (c .line) → ⊥). inl (sym (entered-before day k (nameColumns (c .line)) (listingOf (c .line)) (fine-listing day c e q) i s) ∙ (ap (λ (d : Day). isEntered (atPlace d i)) (sym (after-listing day c e q)) ∙ h)))
         (same-or-not i (place (c .line)))
-    go none false e q = inl (sym (entered-same day (nameColumns (c .line)) (lineOf (c .line)) k (fine day (c .line) (c .room) e) (other-kind day c k n e) (not-listed (column 1 (c .line)) (c .line) q) i) ∙ (ap (λ (d : Day). isEntered (atPlace d i)) (sym (after-taken day c e)) ∙ h))
+    go none false e q = inl (sym (entered-same day (nameColumns (c .line)) (lineOf (c .line)) k (fine day (c .line) (c .room) e) (other-kind day c k n e) (not-kind 83 (c .line) (λ u. omega (u, arith)) q) i) ∙ (ap (λ (d : Day). isEntered (atPlace d i)) (sym (after-taken day c e)) ∙ h))
 
 member-now : (b : Bool) (x : List ℕ) (rest : List (List ℕ)) → b ≡ true → member x (pick b (x ∷ []) [] ++ rest) ≡ true
 unfolding pick member
@@ -256,15 +238,15 @@ member-later true line x rest h = rw h (or-yes (same line x))
     or-yes false = refl
 member-later false line x rest h = h
 
-pub from-lines : (cs : List Call) (day : Day) → Invariant day → acceptedOf 68 day cs ≡ [] → (i : ℕ) → isEntered (atPlace (dayAfter day cs) i) ≡ true → (isEntered (atPlace day i) ≡ true) ⊎ From (acceptedOf 83 day cs) i
+pub from-lines : (cs : List Call) (day : Day) → Reached day → acceptedOf 68 day cs ≡ [] → (i : ℕ) → isEntered (atPlace (dayAfter day cs) i) ≡ true → (isEntered (atPlace day i) ≡ true) ⊎ From (acceptedOf 83 day cs) i
 unfolding acceptedOf dayAfter
 from-lines [] day k n i h = inl h
 from-lines (c ∷ cs) day k n i h =
-    let a = kept-call day c k (no-date-now day c cs n) in
+    let a = kept-call day c k in
     ⊎-elim
     (λ (q : isEntered (atPlace (after day c) i) ≡ true). ⊎-elim
     (λ (r : isEntered (atPlace day i) ≡ true). inl r)
     (λ (r : ((accepts day c && eqb (column 1 (c .line)) 83) ≡ true) × (place (c .line) ≡ i)). inr (c .line, member-now _ (c .line) _ (r .0), r .1))
     (entered-call day c i k (no-date-now day c cs n) q))
     (λ (q : From (acceptedOf 83 (after day c) cs) i). inr (q .0, member-later _ (q .0) (c .line) _ (q .1), q .2))
-    (from-lines cs (after day c) (a .0) (no-date-later day c cs n) i h)
+    (from-lines cs (after day c) a (no-date-later day c cs n) i h)

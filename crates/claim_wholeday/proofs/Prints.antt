@@ -34,6 +34,7 @@ use Rattle.rules.specs.declared.Line.the-variants.{Dated, Listed, Moded, Levele
 use Rattle.rules.specs.declared.Settings.{Settings}
 use Rattle.rules.specs.declared.Security.{Security}
 use Rattle.text.proofs.Booleans.{false-true}
+use Rattle.rules.proofs.Fields.{level-below}
 use Rattle.print_volume.specs.Reading.{unsaid, shownOf}
 use Rattle.print_price.specs.Reading.{shownPrice}
 use Rattle.print_announcement.specs.Reading.{Told, minimum}
@@ -41,21 +42,22 @@ use Rattle.name_back.specs.Plain.{NamePlain}
 use Rattle.name_back.proofs.Back.{name-head}
 use Rattle.claim_decoder.specs.Carried.{printedOf, carriedOf, next}
 use Rattle.claim_decoder.specs.Decode.{Names, isNameOf, nameIn, priceBy, volumeBy, there, decode}
+use Rattle.claim_decoder.proofs.Lawful.{lawful-shown}
 use Rattle.claim_decoder.proofs.Sides.{price-by, volume-by}
 use Rattle.claim_decoder.proofs.Lookup.{no-name, unlike-name}
 use Rattle.claim_decoder.proofs.Fresh.{Fresh, fresh-pair, side-fresh}
 use Rattle.claim_decoder.proofs.Carries.{mode-carried, minimum-carried, level-carried}
 use Rattle.claim_decoder.proofs.Undone.{Known, trade-undone, cancel-undone, error-undone, correction-undone, minimum-undone, mode-undone, level-undone}
-use Rattle.claim_wholeday.specs.Accepted.{AcceptedListing, AcceptedTrade, AcceptedCorrection, Accepted}
-use Rattle.claim_wholeday.specs.Invariant.{atPlace, named, Invariant, Later}
+use Rattle.line_owed.specs.Owed.{kindOf}
+use Rattle.line_owed.specs.Accepted.{AcceptedListing, AcceptedTrade, AcceptedCorrection, AcceptedLine}
+use Rattle.line_owed.specs.Reached.{atPlace, named, Reached, Later}
 use Rattle.claim_wholeday.specs.Decodes as decoding
 use Rattle.claim_wholeday.specs.Decodes.{Silent}
-use Rattle.claim_wholeday.proofs.Kept.{NotDate}
 use Rattle.rules.specs.declared.PriceForm.{PriceForm}
 
 -- ---- a security is known by its name
 
-module _ (day e : Day) (k : Invariant e) (l : Later day e) (i : ℕ) (low : 1 ≤ i) (high : i ≤ 512) (entered-there : isEntered (securityAt day i) ≡ true) where
+module _ (day e : Day) (k : Reached e) (l : Later day e) (i : ℕ) (low : 1 ≤ i) (high : i ≤ 512) (entered-there : isEntered (securityAt day i) ≡ true) where
   abbrev p : ℕ
   p = i - 1
 
@@ -69,7 +71,7 @@ module _ (day e : Day) (k : Invariant e) (l : Later day e) (i : ℕ) (low : 1 �
   name-kept = l .same-name p inside entered-there
 
   plain-there : NamePlain ((securityAt day i) .issue .network) (nameIn (e .names) i)
-  plain-there = rw (← l .same-network p inside entered-there) (k .plain-name p inside stays-there)
+  plain-there = rw (← l .same-network p inside entered-there) (k .enterable p inside stays-there .plain)
 
   alone-there : (b : Bool) (m : ℕ) → m < p → isNameOf (nameText b (nameIn (e .names) i)) (getD (e .names) m noName) ≡ false
   alone-there b m h = go (isEntered (atPlace e m)) refl
@@ -118,7 +120,7 @@ carried-set day i price s h = rw (map-set printedOf (day .securities) (i - 1) s,
 
 -- ---- a trade
 
-entered-as : (s t : Security) → s .issue .unit ≡ t .issue .unit → isEntered t ≡ true → isEntered s ≡ true
+entered-as : (s t : Security) → s .issue ≡ t .issue → isEntered t ≡ true → isEntered s ≡ true
 unfolding isEntered
 entered-as s t e h = rw e h
 
@@ -131,7 +133,7 @@ module _ (network : ℕ) (n : List ℕ) (plain : NamePlain network n) (b : Bool)
   unfolding sideText headText
   side-some = heads-some isLetter (sideText (nameText b n) network unit form shows x) (simp append-assoc (heads-append isLetter (nameText b n) _ (name-head network n plain b)))
 
-module _ (day e : Day) (k : Invariant e) (l : Later day e) (t : Trade) (f : AcceptedTrade day t) where
+module _ (day e : Day) (k : Reached e) (l : Later day e) (t : Trade) (f : AcceptedTrade (securityAt day (t .security)) t) where
   abbrev st : Settings
   st = day .settings
 
@@ -145,10 +147,10 @@ module _ (day e : Day) (k : Invariant e) (l : Later day e) (t : Trade) (f : Acce
   i = t .security
 
   known-trade : Known (e .names) (s .issue .network) i
-  known-trade = known day e k l i (f .low) (f .high) (f .entered-there)
+  known-trade = known day e k l i (f .owed .low) (f .owed .high) (f .entered-there)
 
   same-trade-name : nameIn (e .names) i ≡ nameAt day i
-  same-trade-name = name-kept day e k l i (f .low) (f .high) (f .entered-there)
+  same-trade-name = name-kept day e k l i (f .owed .low) (f .owed .high) (f .entered-there)
 
   abbrev after-trade : Security
   after-trade = afterTrade st s (t .market) x
@@ -194,15 +196,15 @@ module _ (day e : Day) (k : Invariant e) (l : Later day e) (t : Trade) (f : Acce
       → traded i (showsTemporary s && hasTemporary (nameIn (e .names) i)) (priceBy ((carriedOf day) .mode) (getD ((carriedOf day) .printed) (i - 1) 0) (shownPrice (tradeForm st s (t .market) x) (x .price))) (conditionsOf x) (volumeBy ((carriedOf day) .mode) (pick (tradeShows st s (t .market) x) (shownOf (s .issue .network) (s .issue .unit) (x .volume)) unsaid)) ≡ tradeFact day t
   unfolding tradeFact shownVolume tradeShows
   found-fact w q =
-      rw (carried-price day i (f .entered-there), mode-is, price-by st s (t .market) x (f .side-is) (premise w q), same-trade-name, volume-by (st .mode) (showsVolume st s (t .market) x) (s .issue .network) (s .issue .unit) (x .volume))
+      rw (carried-price day i (f .entered-there), mode-is, price-by st s (t .market) x (lawful-shown _ (t .side) (f .owed .side) (f .shows)) (premise w q), same-trade-name, volume-by (st .mode) (showsVolume st s (t .market) x) (s .issue .network) (s .issue .unit) (x .volume))
 
   printed : tradeFalls day t ≡ false → printsTrade st s (t .market) x ≡ true → decoding.Told (e .names) day (withSecurity day i after-trade) (tradePrint day t) (tradeFact day t)
   unfolding next tradeFact
   printed w q = record {
     follows = carried-set day i (units (x .price)) after-trade (printed-there after-trade after-entered ∙ price-moves q);
     some-text = rw (the-print q) (side-some (s .issue .network) (nameIn (e .names) i) (known-trade .is-plain) (showsTemporary s) (s .issue .unit) (tradeForm st s (t .market) x) (tradeShows st s (t .market) x) x);
-    starts = λ r. rw (the-print q) (side-fresh (s .issue .network) (nameIn (e .names) i) (known-trade .is-plain) (showsTemporary s) (s .issue .unit) (tradeForm st s (t .market) x) (tradeShows st s (t .market) x) x (f .side-is .price) r);
-    undone = λ r u. rw (the-print q) (trade-undone (e .names) (s .issue .network) i known-trade (carriedOf day) (showsTemporary s) (s .issue .unit) (tradeForm st s (t .market) x) (tradeShows st s (t .market) x) x r (f .side-is) u ∙ ap (λ (g : Fact). there g r) (found-fact w q));
+    starts = λ r. rw (the-print q) (side-fresh (s .issue .network) (nameIn (e .names) i) (known-trade .is-plain) (showsTemporary s) (s .issue .unit) (tradeForm st s (t .market) x) (tradeShows st s (t .market) x) x (f .owed .side .priced) r);
+    undone = λ r u. rw (the-print q) (trade-undone (e .names) (s .issue .network) i known-trade (carriedOf day) (showsTemporary s) (s .issue .unit) (tradeForm st s (t .market) x) (tradeShows st s (t .market) x) x r (lawful-shown _ (t .side) (f .owed .side) (f .shows)) u ∙ ap (λ (g : Fact). there g r) (found-fact w q));
   }
 
   trade-owed : tradeFalls day t ≡ false → decoding.Decodes (e .names) day (withSecurity day i after-trade) (tradePrint day t) (pick (printsTrade st s (t .market) x) (some (tradeFact day t)) none)
@@ -215,19 +217,19 @@ module _ (day e : Day) (k : Invariant e) (l : Later day e) (t : Trade) (f : Acce
 
 -- ---- a cancel, an error
 
-module _ (day e : Day) (k : Invariant e) (l : Later day e) (t : Trade) (f : AcceptedTrade day t) where
+module _ (day e : Day) (k : Reached e) (l : Later day e) (t : Trade) (f : AcceptedTrade (securityAt day (t .security)) t) where
   abbrev sc : Security
   sc = securityAt day (t .security)
 
   known-cancel : Known (e .names) (sc .issue .network) (t .security)
-  known-cancel = known day e k l (t .security) (f .low) (f .high) (f .entered-there)
+  known-cancel = known day e k l (t .security) (f .owed .low) (f .owed .high) (f .entered-there)
 
   abbrev cancel-text : List ℕ → List ℕ
   cancel-text opening = cancelText opening (nameText false (nameIn (e .names) (t .security))) (sc .issue .network) (sc .issue .unit) (cancelForm (day .settings) sc (t .side)) (cancelShows (day .settings) (t .side)) (t .side)
 
   the-cancel : (opening : List ℕ) → cancelPrint opening day t ≡ cancel-text opening
   unfolding cancelPrint
-  the-cancel opening = rw (name-kept day e k l (t .security) (f .low) (f .high) (f .entered-there))
+  the-cancel opening = rw (name-kept day e k l (t .security) (f .owed .low) (f .owed .high) (f .entered-there))
 
   cancel-mode : (carriedOf day) .mode ≡ day .settings .mode
   unfolding carriedOf
@@ -239,7 +241,7 @@ module _ (day e : Day) (k : Invariant e) (l : Later day e) (t : Trade) (f : Acce
     follows = refl;
     some-text = rw (the-cancel cancelOpening) (omega arith);
     starts = λ r. rw (the-cancel cancelOpening) (fresh-pair _);
-    undone = λ r u. rw (the-cancel cancelOpening) (cancel-undone (e .names) (sc .issue .network) (t .security) known-cancel (carriedOf day) (sc .issue .unit) _ _ (t .side) r (f .side-is) u);
+    undone = λ r u. rw (the-cancel cancelOpening) (cancel-undone (e .names) (sc .issue .network) (t .security) known-cancel (carriedOf day) (sc .issue .unit) _ _ (t .side) r (lawful-shown _ (t .side) (f .owed .side) (f .shows)) u);
   }
 
   error-owed : decoding.Told (e .names) day day (cancelPrint errorOpening day t) (erred (t .security) (partOf (isNormal (day .settings .mode)) (t .side)))
@@ -248,17 +250,17 @@ module _ (day e : Day) (k : Invariant e) (l : Later day e) (t : Trade) (f : Acce
     follows = refl;
     some-text = rw (the-cancel errorOpening) (omega arith);
     starts = λ r. rw (the-cancel errorOpening) (fresh-pair _);
-    undone = λ r u. rw (the-cancel errorOpening) (error-undone (e .names) (sc .issue .network) (t .security) known-cancel (carriedOf day) (sc .issue .unit) _ _ (t .side) r (f .side-is) u);
+    undone = λ r u. rw (the-cancel errorOpening) (error-undone (e .names) (sc .issue .network) (t .security) known-cancel (carriedOf day) (sc .issue .unit) _ _ (t .side) r (lawful-shown _ (t .side) (f .owed .side) (f .shows)) u);
   }
 
 -- ---- a correction
 
-module _ (day e : Day) (k : Invariant e) (l : Later day e) (c : Correction) (f : AcceptedCorrection day c) where
+module _ (day e : Day) (k : Reached e) (l : Later day e) (c : Correction) (f : AcceptedCorrection (securityAt day (c .security)) c) where
   abbrev sx : Security
   sx = securityAt day (c .security)
 
   known-correction : Known (e .names) (sx .issue .network) (c .security)
-  known-correction = known day e k l (c .security) (f .low) (f .high) (f .entered-there)
+  known-correction = known day e k l (c .security) (f .owed .low) (f .owed .high) (f .entered-there)
 
   abbrev after-correction : Security
   after-correction = afterCorrection sx (c .correcting)
@@ -273,7 +275,7 @@ module _ (day e : Day) (k : Invariant e) (l : Later day e) (c : Correction) (f :
 
   the-correction : printsCorrection (day .settings) sx (c .original) (c .correcting) ≡ true → correctionPrint day c ≡ correction-text
   unfolding correctionPrint opt
-  the-correction q = rw (q, name-kept day e k l (c .security) (f .low) (f .high) (f .entered-there))
+  the-correction q = rw (q, name-kept day e k l (c .security) (f .owed .low) (f .owed .high) (f .entered-there))
 
   no-correction : printsCorrection (day .settings) sx (c .original) (c .correcting) ≡ false → correctionPrint day c ≡ []
   unfolding correctionPrint opt
@@ -285,7 +287,7 @@ module _ (day e : Day) (k : Invariant e) (l : Later day e) (c : Correction) (f :
     follows = correction-stays;
     some-text = rw (the-correction q) (omega arith);
     starts = λ r. rw (the-correction q) (fresh-pair _);
-    undone = λ r u. rw (the-correction q) (correction-undone (e .names) (sx .issue .network) (c .security) known-correction (carriedOf day) (sx .issue .unit) _ _ (c .original) (c .correcting) r (f .original-is) (f .correcting-is) u);
+    undone = λ r u. rw (the-correction q) (correction-undone (e .names) (sx .issue .network) (c .security) known-correction (carriedOf day) (sx .issue .unit) _ _ (c .original) (c .correcting) r (lawful-shown _ (c .original) (f .owed .original) (f .shows-original)) (lawful-shown _ (c .correcting) (f .owed .correcting) (f .shows-correcting)) u);
   }
 
   correction-owed : decoding.Decodes (e .names) day (withSecurity day (c .security) after-correction) (correctionPrint day c) (pick (printsCorrection (day .settings) sx (c .original) (c .correcting)) (some (corrected (c .security) (partOf (isNormal (day .settings .mode)) (c .original)) (partOf (isNormal (day .settings .mode)) (c .correcting)))) none)
@@ -359,12 +361,12 @@ listing-stays day name l f = rw (map-set-same printedOf (day .securities) (l .nu
 
 -- ---- any accepted line but a D
 
-pub line-owed : (day e : Day) (name : List ℕ) (l : Line) → Invariant e → Later day e → Accepted day name l → NotDate l → falls day l ≡ false → decoding.Decodes (e .names) day (afterLine day name l) (printOf day l) (factOf day l)
-unfolding afterLine printOf factOf Accepted NotDate falls
-line-owed day e name (Dated n) k l f z w = absurd z
+pub line-owed : (day e : Day) (name : List ℕ) (l : Line) → Reached e → Later day e → AcceptedLine day name l → (kindOf l ≡ 68 → ⊥) → falls day l ≡ false → decoding.Decodes (e .names) day (afterLine day name l) (printOf day l) (factOf day l)
+unfolding afterLine printOf factOf AcceptedLine kindOf falls
+line-owed day e name (Dated n) k l f z w = absurd (z refl)
 line-owed day e name (Listed x) k l f z w = record { no-text = refl; stays = listing-stays day name x f }
 line-owed day e name (Moded m) k l f z w = mode-owed (e .names) day m _ refl
-line-owed day e name (Leveled n) k l f z w = level-owed (e .names) day n _ f refl
+line-owed day e name (Leveled n) k l f z w = level-owed (e .names) day n _ (level-below n f) refl
 line-owed day e name (Stepped n) k l f z w = step-owed (e .names) day n _ (day .settings .mode) refl refl
 line-owed day e name (Traded t) k l f z w = trade-owed day e k l t f w
 line-owed day e name (Cancelled t) k l f z w = cancel-owed day e k l t f

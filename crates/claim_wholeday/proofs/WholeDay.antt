@@ -20,16 +20,17 @@ use Rattle.rules.specs.Premise.{Premise}
 use Rattle.rules.specs.declared.Line.the-variants.{Dated}
 use Rattle.rules.specs.declared.Refusal.{Refusal}
 use Rattle.text.proofs.Booleans.{false-true}
+use Rattle.rules.proofs.Days.{none-there}
 use Rattle.claim_decoder.specs.Carried.{Carried, carriedOf}
 use Rattle.claim_decoder.specs.Decode.{Names}
 use Rattle.claim_calls.specs.Run.{Lent, callOf, tapeFrom}
 use Rattle.claim_calls.proofs.Runs.{fresh-run}
 use Rattle.claim_calls.proofs.Early.{dated, is-date}
-use Rattle.claim_wholeday.specs.Invariant.{atPlace, named, Invariant}
+use Rattle.line_owed.specs.Reached.{atPlace, named, Reached}
+use Rattle.line_owed.proofs.Accepted.{accepted}
+use Rattle.line_owed.proofs.Reached.{kept-cleared}
 use Rattle.claim_wholeday.specs.Decodes.{tape, dayAfter, decodeAll}
 use Rattle.claim_wholeday.specs.Claim.{accepts, acceptedOf, WholeDay, callsOf, WholeDayRuns}
-use Rattle.claim_wholeday.proofs.Accepted.{dated-or-date}
-use Rattle.claim_wholeday.proofs.Kept.{kept-cleared, no-security}
 use Rattle.claim_wholeday.proofs.Decoded.{decoded}
 use Rattle.claim_wholeday.proofs.Lists.{after-refused, tape-refused, shown-refused, not-accepted, after-taken, tape-taken, shown-taken, accepted-yes, kept-run, all-owed, stands-at-end, From, from-lines}
 
@@ -37,7 +38,7 @@ use Rattle.claim_wholeday.proofs.Lists.{after-refused, tape-refused, sh
 
 vacant-first : (n i : ℕ) → i < 512 → isEntered (atPlace (cleared n) i) ≡ true → ⊥
 unfolding cleared
-vacant-first n i h q = false-true (sym no-security ∙ (ap isEntered (sym (getD-replicate 512 i vacant vacant h)) ∙ q))
+vacant-first n i h q = false-true (sym none-there ∙ (ap isEntered (sym (getD-replicate 512 i vacant vacant h)) ∙ q))
 
 module _ (n m : ℕ) (cs ks : List Call) (no-date : acceptedOf 68 (cleared n) cs ≡ []) (none-either : acceptedOf 68 (cleared m) ks ≡ []) where
   abbrev e : Day
@@ -46,11 +47,11 @@ module _ (n m : ℕ) (cs ks : List Call) (no-date : acceptedOf 68 (cleared n) cs
   abbrev g : Day
   g = dayAfter (cleared m) ks
 
-  kept-e : Invariant e
-  kept-e = kept-run cs (cleared n) (kept-cleared n) no-date .0
+  kept-e : Reached e
+  kept-e = kept-run cs (cleared n) (kept-cleared n)
 
-  kept-g : Invariant g
-  kept-g = kept-run ks (cleared m) (kept-cleared m) none-either .0
+  kept-g : Reached g
+  kept-g = kept-run ks (cleared m) (kept-cleared m)
 
   -- a security of the first list is one of the second, under its name
   there-too : ((line : List ℕ) → member line (acceptedOf 83 (cleared n) cs) ≡ true → member line (acceptedOf 83 (cleared m) ks) ≡ true) → (i : ℕ) → i < 512 → isEntered (atPlace e i) ≡ true → (isEntered (atPlace g i) ≡ true) × (named e i ≡ named g i)
@@ -72,10 +73,10 @@ names-same n m cs ks x y s = ext-getD noName (a .names) (b .names) (ka .lines �
     b : Day
     b = dayAfter (cleared m) ks
 
-    ka : Invariant a
+    ka : Reached a
     ka = kept-e n m cs ks x y
 
-    kb : Invariant b
+    kb : Reached b
     kb = kept-g n m cs ks x y
 
     both-none : (i : ℕ) → i < 512 → (q : Bool) → isEntered (atPlace b i) ≡ q → isEntered (atPlace a i) ≡ false → named a i ≡ named b i
@@ -136,7 +137,7 @@ module _ (c : Call) (cs : List Call) (free : refusalOf fresh (c .line) (c .room)
 
   is-d : eqb (column 1 (c .line)) 68 ≡ true
   unfolding undated fresh cleared opened
-  is-d = is-date (eqb (column 1 (c .line)) 68) (dated-or-date fresh (c .line) (c .room) free)
+  is-d = is-date (eqb (column 1 (c .line)) 68) (accepted fresh (c .line) (c .room) free .dated)
 
   is-dated : lineOf (c .line) ≡ Dated day-number
   unfolding lineOf

@@ -1,5 +1,2 @@
-pub mod Lawful
-pub mod Accepted
-pub mod Invariant
 pub mod Decodes
 pub mod Claim

@@ -6,7 +6,7 @@ use mathlib.Core.Bool.{Bool, true, false, _&&_, not}
 use mathlib.Core.List.{List}
 use lib.Dec.{eqb, leb, ltb}
 use lib.ListN.{length}
-use borrow.Author.Tests.{le-ltb, lt-ltb, ne-eqb, eqb-true, leb-true, leb-false, not-true, not-false}
+use borrow.Author.Tests.{le-ltb, lt-ltb, ne-eqb, leb-true, leb-false, not-true, not-false}
 use Rattle.text.specs.Put.{put, Written}
 use Rattle.text.specs.Pick.{pick, among}
 use Rattle.text.proofs.Texts.{and-left, and-right}
@@ -27,7 +27,8 @@ use Rattle.rules.specs.declared.Refusal.the-variants.{NotEntered, Conditions, R
 use Rattle.rules.specs.Sizes.{width}
 use Rattle.engine.proofs.Numbers.{taken-as}
 use Rattle.call_table.specs.Rows.{row, withRow, nameOf}
-use Rattle.print_side.specs.Columns.{SideColumns}
+use Rattle.line_owed.specs.Owed.{OwedTrade, SideColumns}
+use Rattle.line_owed.proofs.Owed.{long, trade-owed, trade-stands}
 use Rattle.line_trade.specs.declared.TradeLine.{TradeLine}
 use Rattle.line_trade.specs.TradeLine.{isGood, tradeLine, sideIn}
 use Rattle.line_trade.proofs.Lines.{good-no, good-shaped, good-kind, good-formed, good-ranged, good-trade}
@@ -36,11 +37,9 @@ use Rattle.call_trade.specs.Traded.{tradeText, untakenOf, Carried}
 use Rattle.call_plan.specs.declared.TradePlan.{TradePlan}
 use Rattle.call_plan.specs.declared.Plan.{Plan}
 use Rattle.call_plan.specs.declared.Plan.the-variants.{Stop, Print}
-use Rattle.call_plan.specs.Plan.{printPlan, unlessStopped, tradePlan, linePlan, readPlan, planOf, SoundTrade}
-use Rattle.call_plan.proofs.Ranged.{sound-trade}
+use Rattle.call_plan.specs.Plan.{printPlan, unlessStopped, tradePlan, linePlan, readPlan, planOf}
 use Rattle.call_print.specs.Print.{printedName, printText, textOf, fittedOf, printOf}
 use Rattle.call_print.proofs.Sound.{has-unit}
-use Rattle.call_print.proofs.Columns.{trade-stands}
 use Rattle.call_state.specs.After.{settingsAfter, tableAfter, namesAfter}
 use Rattle.engine.specs.declared.Outcome.the-variants.{Accepted}
 use Rattle.engine.specs.declared.Answer.{Answer}
@@ -99,8 +98,8 @@ module _ (st : Settings) (line : List ℕ) (t : TradeLine) (h : GoodCall st line
   trade-is : tradeOf line ≡ trade
   trade-is = good-trade line t (h .read) (h .good)
 
-  sound : SoundTrade trade
-  sound = rw trade-is at (sound-trade line (good-ranged line t (h .read) (h .good)))
+  sound : OwedTrade trade
+  sound = rw trade-is at (trade-owed line (good-ranged line t (h .read) (h .good)))
 
   pub some-place : 1 ≤ t .security
   some-place = sound .low
@@ -112,8 +111,7 @@ module _ (st : Settings) (line : List ℕ) (t : TradeLine) (h : GoodCall st line
   is-shaped = good-shaped line t (h .read) (h .good)
 
   pub line-length : length line ≡ width
-  unfolding isShaped
-  line-length = eqb-true (length line) width (and-left (eqb (length line) width) _ is-shaped)
+  line-length = long line is-shaped
 
   pub line-room : 52 ≤ length line
   line-room = omega (arith, line-length)

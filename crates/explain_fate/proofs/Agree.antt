@@ -6,15 +6,15 @@ use mathlib.Core.Bool.{Bool, true, false, _&&_, not}
 use mathlib.Core.List.{List}
 use mathlib.Core.Option.{Option, none, some}
 use lib.ListN.{length}
+use borrow.Author.Tests.{not-false}
 use Rattle.text.specs.Pick.{pick}
 use Rattle.rules.specs.Columns.{column}
-use Rattle.rules.specs.Line.{isShaped, isKind, isFormed, isRanged, lineOf, ofKind}
+use Rattle.rules.specs.Line.{isShaped, isKind, isFormed, isRanged, lineOf}
 use Rattle.rules.specs.Day.{Day, Call, securityAt, refusalOf}
 use Rattle.rules.specs.declared.Line.{Line}
 use Rattle.rules.specs.declared.Refusal.{Refusal}
 use Rattle.rules.specs.declared.Refusal.the-variants.{Shape, Kind, Form, Value}
 use Rattle.rules.specs.declared.Settings.{Settings}
-use Rattle.rules.proofs.Days.{passed}
 use Rattle.call_table.specs.Sizes.{tableSize, namesSize}
 use Rattle.line_kinds.specs.declared.Reading as dayline
 use Rattle.line_kinds.specs.declared.Reading.the-variants as reading
@@ -22,8 +22,9 @@ use Rattle.line_kinds.specs.Fields.{readingOf}
 use Rattle.call_table.specs.Rows.{row, dayOf}
 use Rattle.call_table.proofs.Held.{held-security}
 use Rattle.call_plan.specs.declared.Plan.{Plan}
-use Rattle.call_plan.specs.Plan.{SoundLine}
-use Rattle.call_plan.proofs.Ranged.{sound-line}
+use Rattle.line_owed.specs.Owed.{OwedLine}
+use Rattle.line_owed.proofs.Owed.{owed-line}
+use Rattle.line_owed.proofs.Accepted.{accepted}
 use Rattle.engine.specs.Taken.{asked}
 use Rattle.claim_calls.specs.Held.{stopOf}
 use Rattle.claim_calls.proofs.Agree.{by-rules}
@@ -41,8 +42,8 @@ asks true r d h = tt
 asks false r d h = h refl
 
 sound-read : (line : List ℕ) → SoundReading (readingOf line)
-unfolding readingOf SoundReading isRanged lineOf
-sound-read line = asks _ _ _ (λ e. asks _ _ _ (λ f. asks _ _ _ (λ g. asks _ _ _ (λ h. sound-line line (ofKind (column 1 line) line) refl h))))
+unfolding readingOf SoundReading
+sound-read line = asks _ _ _ (λ e. asks _ _ _ (λ f. asks _ _ _ (λ g. asks _ _ _ (λ h. owed-line line (not-false _ h)))))
 
 pub sound-reading : (line : List ℕ) (d : dayline.Reading) → d ≡ readingOf line → SoundReading d
 sound-reading line d e = rw e (sound-read line)
@@ -71,14 +72,8 @@ explained-small day c = rw (← security-read (c .line)) (reading-small (reading
 -- ---- a line that nothing stops
 
 taken : (day : Day) (line : List ℕ) (room : ℕ) → refusalOf day line room ≡ none → readingOf line ≡ reading.Taken (lineOf line)
-unfolding refusalOf readingOf pick
-taken day line room h =
-    let a = passed _ _ _ h in
-    let b = passed _ _ _ (a .1) in
-    let c = passed _ _ _ (b .1) in
-    let d = passed _ _ _ (c .1) in
-    let e = passed _ _ _ (d .1) in
-    rw (a .0, b .0, d .0, e .0)
+unfolding readingOf pick
+taken day line room h = let a = accepted day line room h in rw (a .shaped, a .known, a .formed, a .ranged)
 
 -- ---- by the rules
 
@@ -90,7 +85,7 @@ module _ (st : Settings) (table names : List ℕ) where
   held zero h = held-security st table names 1 (omega arith) (omega arith)
   held (suc i) h = held-security st table names (suc i) (omega arith) h
 
-  fate-held : (l : Line) → SoundLine l → fateAt st (row table (securityOf l - 1)) l ≡ fateOf day l
+  fate-held : (l : Line) → OwedLine l → fateAt st (row table (securityOf l - 1)) l ≡ fateOf day l
   unfolding fateOf dayOf
   fate-held l h = ap (λ s. fateAt st s l) (sym (held (securityOf l) (number-small l h)))
 
@@ -99,7 +94,7 @@ module _ (st : Settings) (table names : List ℕ) where
     unfolding readFate SoundReading
     read-through h =
         let t = taken day line room h in
-        let s : SoundLine (lineOf line) = rw t at (sound-read line) in
+        let s : OwedLine (lineOf line) = rw t at (sound-read line) in
         rw t (fate-held (lineOf line) s)
 
     fate-by : (o : Option Refusal) → refusalOf day line room ≡ o → fateIf o (readFate st table (readingOf line)) ≡ elim o [ some r ↦ Refused r | none ↦ fateOf day (lineOf line) ]

@@ -30,7 +30,7 @@ use Rattle.call_plan.specs.declared.CancelPlan.{CancelPlan}
 use Rattle.call_plan.specs.declared.CorrectionPlan.{CorrectionPlan}
 use Rattle.call_plan.specs.declared.Plan.{Plan}
 use Rattle.call_plan.specs.declared.Plan.the-variants.{Stop, Open, Enter, Change, Level, Step, Print, Cancel, Correct}
-use Rattle.call_plan.specs.Plan.{SoundListing, SoundTrade, SoundCorrection, SoundLine}
+use Rattle.line_owed.specs.Owed.{OwedLine}
 use Rattle.claim_calls.specs.Held.{stopOf}
 use Rattle.explain_fate.specs.Explained.{securityOf, tradeFate, cancelFate, correctionFate, stepFate, fateAt}
 use Rattle.explain_fate.specs.Read.{readSecurity, readFate, fateIf, SoundReading}
@@ -107,26 +107,6 @@ module _ (st : Settings) (s : Security) (l : Line) (f : Fate) where
 
 pub ruleset kinds = (at-dated, at-listed, at-moded, at-leveled, at-stepped, at-traded, at-cancelled, at-erred, at-corrected)
 
--- what is owed of each
-module _ (l : Line) (owed : SoundLine l) where
-  pub sound-traded : (t : Trade) → l ≡ Traded t → SoundTrade t
-  unfolding SoundLine
-  sound-traded t e = rw e at owed
-
-  pub sound-cancelled : (t : Trade) → l ≡ Cancelled t → SoundTrade t
-  unfolding SoundLine
-  sound-cancelled t e = rw e at owed
-
-  pub sound-erred : (t : Trade) → l ≡ Erred t → SoundTrade t
-  unfolding SoundLine
-  sound-erred t e = rw e at owed
-
-  pub sound-corrected : (c : Correction) → l ≡ Corrected c → SoundCorrection c
-  unfolding SoundLine
-  sound-corrected c e = rw e at owed
-
-pub ruleset sounds = (sound-traded, sound-cancelled, sound-erred, sound-corrected)
-
 -- ---- the line's security
 
 module _ (l : Line) where
@@ -169,8 +149,8 @@ module _ (l : Line) where
 pub ruleset securities = (of-dated, of-listed, of-moded, of-leveled, of-stepped, of-traded, of-cancelled, of-erred, of-corrected)
 
 -- it is in the table
-pub number-small : (l : Line) → SoundLine l → securityOf l ≤ 512
-unfolding SoundLine securityOf
+pub number-small : (l : Line) → OwedLine l → securityOf l ≤ 512
+unfolding OwedLine securityOf
 number-small (Dated n) h = omega arith
 number-small (Listed l) h = h .high
 number-small (Moded m) h = omega arith
@@ -182,10 +162,10 @@ number-small (Erred t) h = h .high
 number-small (Corrected c) h = h .high
 
 module _ (l : Line) (n : ℕ) (told : n ≡ securityOf l) where
-  pub number-fits : SoundLine l → n ≤ 512
+  pub number-fits : OwedLine l → n ≤ 512
   number-fits h = rw told (number-small l h)
 
-  pub place-fits : (i : ℕ) → SoundLine l → i ≡ n - 1 → i < 512
+  pub place-fits : (i : ℕ) → OwedLine l → i ≡ n - 1 → i < 512
   place-fits i h e = omega (arith, e, number-fits h)
 
   pub fate-there : (st : Settings) (table : List ℕ) (i : ℕ) (s : Security) (f : Fate) → i ≡ n - 1 → s ≡ row table i → f ≡ fateAt st s l → f ≡ fateAt st (row table (securityOf l - 1)) l
@@ -196,7 +176,7 @@ pub ruleset places = (number-fits, place-fits, fate-there)
 -- ---- a line as it is read
 
 module _ (d : dayline.Reading) where
-  pub sound-taken : (l : Line) → SoundReading d → d ≡ reading.Taken l → SoundLine l
+  pub sound-taken : (l : Line) → SoundReading d → d ≡ reading.Taken l → OwedLine l
   unfolding SoundReading
   sound-taken l h e = rw e at h
 

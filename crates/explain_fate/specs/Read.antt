@@ -8,7 +8,7 @@ use Rattle.rules.specs.declared.Settings.{Settings}
 use Rattle.line_kinds.specs.declared.Reading as dayline
 use Rattle.line_kinds.specs.declared.Reading.the-variants as reading
 use Rattle.call_table.specs.Rows.{row}
-use Rattle.call_plan.specs.Plan.{SoundLine}
+use Rattle.line_owed.specs.Owed.{OwedLine}
 use Rattle.explain_fate.specs.Explained.{securityOf, fateAt}
 use Rattle.explain_fate.specs.declared.Fate.{Fate}
 use Rattle.explain_fate.specs.declared.Fate.the-variants.{Refused}
@@ -29,4 +29,4 @@ fateIf none taken = taken
 -- a line within its values has a security's number and sound prices
 unfoldable pub SoundReading : dayline.Reading → Type 0
 SoundReading (reading.Refused r) = Unit {0}
-SoundReading (reading.Taken l) = SoundLine l
+SoundReading (reading.Taken l) = OwedLine l

@@ -18,7 +18,7 @@ ghost use mathlib.Core.Path.{_≡_};
 ghost use Prim.Native.Nat.{_-_, _≤_};
 ghost use Rattle.rules.specs.Sizes.{securityPlaces};
 ghost use Rattle.call_table.specs.Rows.{row, dayOf};
-ghost use Rattle.call_plan.specs.Plan.{SoundTrade, SoundCorrection, SoundLine};
+ghost use Rattle.line_owed.specs.Owed.{OwedTrade, OwedCorrection, OwedLine};
 ghost use Rattle.claim_calls.specs.Held.{stopOf};
 ghost use Rattle.explain_fate.specs.Explained.{securityOf, kindIn, tradeFate, cancelFate, correctionFate, stepFate, fateAt, Explained};
 ghost use Rattle.explain_fate.specs.Read.{readSecurity, readFate, fateIf, SoundReading};
@@ -51,7 +51,7 @@ pub struct Explanation {
 // ---- an accepted line, by settings and its security
 
 fn trade_fate(st: Settings, s: Security, t: Trade) -> Fate
-    requires { ⌜ SoundTrade t ⌝ }
+    requires { ⌜ OwedTrade t ⌝ }
     ensures { λ r. ⌜ r ≡ tradeFate st s t ⌝ }
 {
     let x = t.side;
@@ -67,7 +67,7 @@ fn trade_fate(st: Settings, s: Security, t: Trade) -> Fate
 
 // A cancel or an error: they always print.
 fn cancel_fate(st: Settings, s: Security, t: Trade) -> Fate
-    requires { ⌜ SoundTrade t ⌝ }
+    requires { ⌜ OwedTrade t ⌝ }
     ensures { λ r. ⌜ r ≡ cancelFate st s t ⌝ }
 {
     let x = t.side;
@@ -79,7 +79,7 @@ fn cancel_fate(st: Settings, s: Security, t: Trade) -> Fate
 }
 
 fn correction_fate(st: Settings, s: Security, c: Correction) -> Fate
-    requires { ⌜ SoundCorrection c ⌝ }
+    requires { ⌜ OwedCorrection c ⌝ }
     ensures { λ r. ⌜ r ≡ correctionFate st s c ⌝ }
 {
     let x = c.original;
@@ -105,7 +105,7 @@ fn step_fate(m: Mode) -> Fate
 }
 
 fn fate_at(st: Settings, s: Security, l: Line) -> Fate
-    requires { ⌜ SoundLine l ⌝ }
+    requires { ⌜ OwedLine l ⌝ }
     ensures { λ r. ⌜ r ≡ fateAt st s l ⌝ }
 {
     let mode = st.mode;
@@ -152,7 +152,7 @@ fn place_of(number: u64) -> usize
 }
 
 fn line_fate(st: Settings, table: &Table, l: Line) -> Fate
-    requires { ⌜ SoundLine l ⌝ }
+    requires { ⌜ OwedLine l ⌝ }
     ensures { λ r. ⌜ r ≡ fateAt st (row (now (table .entry)) (securityOf l - 1)) l ⌝ }
 {
     let number = security_of(l);

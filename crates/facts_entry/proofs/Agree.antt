@@ -8,11 +8,12 @@ use mathlib.Core.Option.{Option, none, some}
 use lib.ListN.{length}
 use borrow.Author.Tests.{not-false}
 use Rattle.text.specs.Pick.{pick, same}
+use Rattle.text.proofs.Texts.{and-left, and-right}
 use Rattle.rules.specs.Names.{hasTemporary}
 use Rattle.rules.specs.Volume.{volumeText}
 use Rattle.rules.specs.Price.{units}
-use Rattle.rules.specs.Columns.{column}
-use Rattle.rules.specs.Line.{isRanged, lineOf, ofKind, nameColumns}
+use Rattle.rules.specs.Conditions.{onNetwork}
+use Rattle.rules.specs.Line.{lineOf, nameColumns}
 use Rattle.rules.specs.Trade.{isNormal, printsTrade, tradeShows}
 use Rattle.rules.specs.Announcement.{modeText, levelText, stepText}
 use Rattle.rules.specs.Correction.{printsCorrection}
@@ -35,19 +36,25 @@ use Rattle.call_table.specs.Rows.{row, nameOf, dayOf}
 use Rattle.call_table.proofs.Held.{held-security, held-name}
 use Rattle.call_plan.specs.declared.Plan.{Plan}
 use Rattle.call_plan.specs.declared.Plan.the-variants.{Stop, Open, Enter, Change, Level, Step, Print, Cancel, Correct}
-use Rattle.call_plan.specs.Plan as planner
-use Rattle.call_plan.specs.Plan.{datePlan, listingPlan, unlessStopped, printPlan, tradePlan, cancelOf, cancelPlan, correctionOf, correctionPlan, linePlan, readPlan, planOf, SoundLine}
-use Rattle.call_plan.proofs.Ranged.{sound-line}
+use Rattle.call_plan.specs.Plan.{datePlan, listingPlan, unlessStopped, printPlan, tradePlan, cancelOf, cancelPlan, correctionOf, correctionPlan, linePlan, readPlan, planOf}
+use Rattle.line_owed.specs.Shown.{Showable, shownSide}
+use Rattle.line_owed.specs.Owed.{OwedTrade, OwedCorrection, OwedLine}
+use Rattle.line_owed.proofs.Shown.{previous-sound, shown-owed}
+use Rattle.line_owed.proofs.Owed.{owed-line}
 use Rattle.call_print.specs.Print.{fittedOf, printOf}
 use Rattle.call_print.proofs.Sound.{has-unit}
 use Rattle.engine.specs.Taken.{asked}
 use Rattle.claim_calls.specs.Held.{stopOf}
 use Rattle.claim_calls.proofs.Agree.{by-rules, unless}
 use Rattle.facts_side.specs.Sound.{SoundSide}
-use Rattle.facts_entry.specs.Entry.{factIn, showsShares, volumeOf, planFact, SoundTrade, SoundCorrection, SoundFact, entryOf}
+use Rattle.facts_entry.specs.Entry.{factIn, showsShares, volumeOf, planFact, SoundFact, entryOf}
 use Rattle.facts_entry.specs.Short.{ShortConditions, ShortPart, ShortVolume, ShortFact, ShortShown}
 use Rattle.facts_entry.specs.declared.Entry.{Entry}
-use Rattle.facts_entry.proofs.Owed.{SmallTrade, SmallCorrection, SmallLine, small-line}
+
+-- a side that nothing stops has numbers within their values
+side-sound : (network : ℕ) (x : Side) → Showable network (shownSide x) → SoundSide x
+unfolding shownSide
+side-sound network x s = let o = shown-owed network (shownSide x) s in record { price-is = o .price; previous-is = previous-sound network (shownSide x) s; volume-is = o .volume; days-is = o .days }
 
 -- ---- facts by what the day holds of the security
 
@@ -141,7 +148,7 @@ module _ (st : Settings) (table names : List ℕ) where
   unfolding listingPlan SoundFact stopOf unless planFact factOf
   fits-listing name l = asks _ _ _ _ (λ e. asks _ _ _ _ (λ f. asks _ _ _ _ (λ g. record { sound = tt; fact = refl })))
 
-  module _ (t : Trade) (h : planner.SoundTrade t) (k : SmallTrade t) where
+  module _ (t : Trade) (h : OwedTrade t) where
     abbrev s : Security
     s = row table (t .security - 1)
 
@@ -151,12 +158,11 @@ module _ (st : Settings) (table names : List ℕ) where
     stands : securityAt day (t .security) ≡ s
     stands = held-security st table names (t .security) (h .low) (h .high)
 
-    side-sound : t .matched ≡ true → SoundSide (t .side)
-    side-sound m = record { price-is = h .price; previous-is = record { decimals = h .previous; small = k .previous-is m }; volume-is = k .side-is .volume-is; days-is = k .side-is .days-is }
-
-    unless-stopped : (l : Line) (p : Plan) → (1 ≤ s .issue .unit → t .matched ≡ true → Fits l p) → Fits l (unlessStopped s t p)
+    unless-stopped : (l : Line) (p : Plan) → (1 ≤ s .issue .unit → SoundSide (t .side) → Fits l p) → Fits l (unlessStopped s t p)
     unfolding unlessStopped
-    unless-stopped l p f = asks _ _ _ _ (λ e. asks _ _ _ _ (λ g. asks _ _ _ _ (λ m. f (has-unit s e) (not-false (t .matched) m))))
+    unless-stopped l p f = asks _ _ _ _ (λ e. asks _ _ _ _ (λ g. asks _ _ _ _ (λ m.
+        let k = not-false (t .lawful && onNetwork (s .issue .network) (t .side .letters)) g in
+        f (has-unit s e) (side-sound (s .issue .network) (t .side) (h .shows (s .issue .network) (and-left (t .lawful) _ k) (and-right (t .lawful) _ k) (not-false (t .matched) m))))))
 
     trade-fact : planFact st names (Print (printPlan st s t)) ≡ factOf day (Traded t)
     unfolding planFact printPlan volumeOf showsShares
@@ -164,7 +170,7 @@ module _ (st : Settings) (table names : List ℕ) where
 
     fits-trade : Fits (Traded t) (tradePlan st s t)
     unfolding tradePlan SoundFact printPlan stopOf unless
-    fits-trade = unless-stopped (Traded t) _ (λ u m. record { sound = record { place-is = omega (arith, h .low, h .high); unit-is = u; side-is = side-sound m }; fact = trade-fact })
+    fits-trade = unless-stopped (Traded t) _ (λ u m. record { sound = record { place-is = omega (arith, h .low, h .high); unit-is = u; side-is = m }; fact = trade-fact })
 
     cancel-fact : planFact st names (Cancel (cancelOf false st s t)) ≡ factOf day (Cancelled t)
     unfolding planFact cancelOf factOf pick
@@ -172,7 +178,7 @@ module _ (st : Settings) (table names : List ℕ) where
 
     fits-cancel : Fits (Cancelled t) (cancelPlan false st s t)
     unfolding cancelPlan SoundFact cancelOf stopOf unless
-    fits-cancel = unless-stopped (Cancelled t) _ (λ u m. record { sound = record { place-is = omega (arith, h .low, h .high); side-is = side-sound m }; fact = cancel-fact })
+    fits-cancel = unless-stopped (Cancelled t) _ (λ u m. record { sound = record { place-is = omega (arith, h .low, h .high); side-is = m }; fact = cancel-fact })
 
     error-fact : planFact st names (Cancel (cancelOf true st s t)) ≡ factOf day (Erred t)
     unfolding planFact cancelOf factOf pick
@@ -180,9 +186,9 @@ module _ (st : Settings) (table names : List ℕ) where
 
     fits-error : Fits (Erred t) (cancelPlan true st s t)
     unfolding cancelPlan SoundFact cancelOf stopOf unless
-    fits-error = unless-stopped (Erred t) _ (λ u m. record { sound = record { place-is = omega (arith, h .low, h .high); side-is = side-sound m }; fact = error-fact })
+    fits-error = unless-stopped (Erred t) _ (λ u m. record { sound = record { place-is = omega (arith, h .low, h .high); side-is = m }; fact = error-fact })
 
-  module _ (c : Correction) (h : planner.SoundCorrection c) (k : SmallCorrection c) where
+  module _ (c : Correction) (h : OwedCorrection c) where
     abbrev x : Security
     x = row table (c .security - 1)
 
@@ -190,41 +196,46 @@ module _ (st : Settings) (table names : List ℕ) where
     unfolding planFact correctionOf
     correction-fact = correction-parts day c st x (c .security - 1 + 1) settled (held-security st table names (c .security) (h .low) (h .high)) (omega (arith, h .low))
 
-    correction-sound : c .matched ≡ true → SoundFact (Correct (correctionOf st x c))
+    abbrev on : Bool
+    on = onNetwork (x .issue .network) (c .original .letters) && onNetwork (x .issue .network) (c .correcting .letters)
+
+    correction-sound : (c .lawful && on) ≡ true → c .matched ≡ true → SoundFact (Correct (correctionOf st x c))
     unfolding SoundFact correctionOf
-    correction-sound m =
+    correction-sound k m =
+        let l = and-left (c .lawful) on k in
+        let o = and-right (c .lawful) on k in
         record {
           place-is = omega (arith, h .low, h .high);
-          original-is = record { price-is = h .original; previous-is = record { decimals = h .original-previous; small = k .original-previous m }; volume-is = k .original-is .volume-is; days-is = k .original-is .days-is };
-          correcting-is = record { price-is = h .correcting; previous-is = record { decimals = h .correcting-previous; small = k .correcting-previous m }; volume-is = k .correcting-is .volume-is; days-is = k .correcting-is .days-is };
+          original-is = side-sound (x .issue .network) (c .original) (h .shows-original (x .issue .network) l (and-left (onNetwork (x .issue .network) (c .original .letters)) _ o) m);
+          correcting-is = side-sound (x .issue .network) (c .correcting) (h .shows-correcting (x .issue .network) l (and-right (onNetwork (x .issue .network) (c .original .letters)) _ o) m);
         }
 
     fits-correction : Fits (Corrected c) (correctionPlan st x c)
     unfolding correctionPlan stopOf unless
-    fits-correction = asks _ _ _ _ (λ e. asks _ _ _ _ (λ f. asks _ _ _ _ (λ m. record { sound = correction-sound (not-false (c .matched) m); fact = correction-fact })))
+    fits-correction = asks _ _ _ _ (λ e. asks _ _ _ _ (λ f. asks _ _ _ _ (λ m. record { sound = correction-sound (not-false (c .lawful && on) f) (not-false (c .matched) m); fact = correction-fact })))
 
   -- ---- every kind
 
-  fits-line : (name : List ℕ) (l : Line) → SoundLine l → SmallLine l → Fits l (linePlan st table names name l)
-  unfolding linePlan SoundLine SmallLine SoundFact stopOf unless planFact factOf rules.printOf dayOf
-  fits-line name (Dated n) h k = fits-date n
-  fits-line name (Listed l) h k = fits-listing name l
-  fits-line name (Moded m) h k = record { sound = tt; fact = refl }
-  fits-line name (Leveled n) h k = record { sound = tt; fact = refl }
-  fits-line name (Stepped n) h k = record { sound = tt; fact = refl }
-  fits-line name (Traded t) h k = fits-trade t h k
-  fits-line name (Cancelled t) h k = fits-cancel t h k
-  fits-line name (Erred t) h k = fits-error t h k
-  fits-line name (Corrected c) h k = fits-correction c h k
+  fits-line : (name : List ℕ) (l : Line) → OwedLine l → Fits l (linePlan st table names name l)
+  unfolding linePlan OwedLine SoundFact stopOf unless planFact factOf rules.printOf dayOf
+  fits-line name (Dated n) h = fits-date n
+  fits-line name (Listed l) h = fits-listing name l
+  fits-line name (Moded m) h = record { sound = tt; fact = refl }
+  fits-line name (Leveled n) h = record { sound = tt; fact = refl }
+  fits-line name (Stepped n) h = record { sound = tt; fact = refl }
+  fits-line name (Traded t) h = fits-trade t h
+  fits-line name (Cancelled t) h = fits-cancel t h
+  fits-line name (Erred t) h = fits-error t h
+  fits-line name (Corrected c) h = fits-correction c h
 
   -- ---- any line
 
   module _ (line : List ℕ) (room : ℕ) where
     fits : Fits (lineOf line) (planOf st table names line)
-    unfolding planOf readPlan isRanged lineOf
+    unfolding planOf readPlan
     fits =
         asks _ _ _ _ (λ e. asks _ _ _ _ (λ f. asks _ _ _ _ (λ g. asks _ _ _ _ (λ h. asks _ _ _ _ (λ i.
-        fits-line (nameColumns line) (lineOf line) (sound-line line (ofKind (column 1 line) line) refl i) (small-line (column 1 line) line (not-false _ i)))))))
+        fits-line (nameColumns line) (lineOf line) (owed-line line (not-false _ i)))))))
 
     fits-asked : Fits (lineOf line) (asked st table names line room)
     unfolding asked fittedOf

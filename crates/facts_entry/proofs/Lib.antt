@@ -1,4 +1,3 @@
 pub mod Back
 pub mod Arms
-pub mod Owed
 pub mod Agree

@@ -12,7 +12,7 @@ ghost use Rattle.text.specs.Pick.{pick, opt};
 ghost use Rattle.text.specs.Put.{Written};
 ghost use Rattle.rules.specs.Names.{nameText};
 ghost use Rattle.rules.specs.Side.{sideText};
-ghost use Rattle.print_side.specs.Columns.{SideColumns};
+ghost use Rattle.line_owed.specs.Owed.{SideColumns};
 ghost use Rattle.print_amendment.specs.Original.{originalText};
 ghost use Rattle.rules.specs.Correction.{repeatsName, endPair, correctionText, cancelText, cancelOpening, errorOpening};
 ghost use Rattle.rules.specs.Sizes.{nameWidth};

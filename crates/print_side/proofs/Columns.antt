@@ -19,7 +19,7 @@ use Rattle.rules.specs.declared.Letters.{Letters}
 use Rattle.rules.specs.declared.Side.{Side}
 use Rattle.rules.proofs.Fields.{word-blank}
 use Rattle.print_amounts.specs.Columns.{VolumeColumns, PriceColumns}
-use Rattle.print_side.specs.Columns.{SideColumns}
+use Rattle.line_owed.specs.Owed.{SideColumns}
 
 abbrev noLetters : Letters
 noLetters = record { o = false; s = false; l = false; n = false; m = false; c = false; k = false; b = false; t = false; r = false; j = false; g = false }
@@ -33,10 +33,10 @@ field-begins part h = ap (take 4) (drop-cons part 24 0 h)
 
 module _ (part : List ℕ) (x : Side) (h : SideColumns part x) where
   pub volume-columns : VolumeColumns part (x .volume)
-  volume-columns = record { size = h .size; volume-is = h .volume-is; some = h .some }
+  volume-columns = record { size = h .size; volume-is = h .volume-is; some = h .owed .some }
 
   pub price-columns : PriceColumns (take 37 (drop 9 part)) (x .price)
-  price-columns = record { size = omega (arith, h .size, length-take 37 (drop 9 part), length-drop 9 part); n-is = ap numberIn (take-take 14 37 (drop 9 part) (omega arith)) ∙ h .n-is; sound = h .sound }
+  price-columns = record { size = omega (arith, h .size, length-take 37 (drop 9 part), length-drop 9 part); n-is = ap numberIn (take-take 14 37 (drop 9 part) (omega arith)) ∙ h .n-is; sound = h .owed .price }
 
   pub no-letters : eqb (getD part 24 0) 32 ≡ true → x .letters ≡ noLetters
   no-letters e = h .letters-is ∙ (ap lettersIn (field-begins part (omega (arith, h .size))) ∙ none-in (getD part 24 0) (take 3 (drop 25 part)) (eqb-true (getD part 24 0) 32 e))

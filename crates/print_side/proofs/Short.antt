@@ -18,8 +18,10 @@ use Rattle.rules.specs.Side.{headText, tailText, sideText}
 use Rattle.rules.specs.declared.Price.{Price}
 use Rattle.rules.specs.declared.Letters.{Letters}
 use Rattle.rules.specs.declared.Side.{Side}
+use Rattle.line_owed.specs.Owed.{OwedSide}
+use Rattle.line_owed.proofs.Shown.{sound-below}
 use Rattle.rules.specs.declared.PriceForm.{PriceForm}
-use Rattle.rules.specs.declared.PriceForm.the-variants as forms
+use Rattle.rules.specs.declared.PriceForm.the-variants.{Full, Short}
 
 -- a text of at most k bytes
 record Most (k : ℕ) (t : List ℕ) : Type 0 where
@@ -107,8 +109,8 @@ module _ (p : Price) (h : p .n < 10 ^ 20) (l : p .d ≤ 8) where
 
   dollars-short : (form : PriceForm) → Most 20 (dollarsText form (wholePart p))
   unfolding dollarsText
-  dollars-short forms.Full = whole-short
-  dollars-short forms.Short = short-whole
+  dollars-short Full = whole-short
+  dollars-short Short = short-whole
 
   price-short : (form : PriceForm) → Most 29 (priceText form p)
   unfolding priceText
@@ -129,23 +131,14 @@ price-conditions x = then (then (shown _ (mark 2 (bytes ",c") (omega arith))) (s
 
 -- ---- a side
 
--- numbers of at most twenty digits, at most eight of them decimals
-pub record Short (x : Side) : Type 0 where
-  pub volume-is : x .volume < 10 ^ 20
-  pub price-is : x .price .n < 10 ^ 20
-  pub decimals-are : x .price .d ≤ 8
-  pub days-are : x .days < 10 ^ 20
-  pub previous-is : x .previous .n < 10 ^ 20
-  pub previous-decimals : x .previous .d ≤ 8
-
-module _ (x : Side) (h : Short x) where
+module _ (x : Side) (h : OwedSide x) where
   seller-short : Most 26 (sellerText (x .days))
   unfolding sellerText
-  seller-short = then (mark 6 (bytes "SELLER") (omega arith)) (few (x .days) (h .days-are))
+  seller-short = then (mark 6 (bytes "SELLER") (omega arith)) (few (x .days) (omega (arith, h .days)))
 
   previous-short : Most 42 (previousText (x .previous))
   unfolding previousText
-  previous-short = then (then (mark 11 (bytes ">>PREV.LAST") (omega arith)) (price-short (x .previous) (h .previous-is) (h .previous-decimals) forms.Full)) (mark 2 (bytes ">>") (omega arith))
+  previous-short = then (then (mark 11 (bytes ">>PREV.LAST") (omega arith)) (price-short (x .previous) (omega (arith, h .last)) (h .decimals) Full)) (mark 2 (bytes ">>") (omega arith))
 
   end-short : Most 75 (atEnd x)
   unfolding atEnd
@@ -158,5 +151,5 @@ module _ (x : Side) (h : Short x) where
   pub side-short : (name : List ℕ) (network unit : ℕ) (form : PriceForm) (shows : Bool) → length (sideText name network unit form shows x) ≤ length name + 161
   unfolding sideText headText
   side-short name network unit form shows =
-      let t = then (then (then (then (mark (length name) name (omega arith)) (name-conditions (x .letters))) (shown shows (volume-short (x .volume) (h .volume-is) network unit))) (price-short (x .price) (h .price-is) (h .decimals-are) form)) tail-short in
+      let t = then (then (then (then (mark (length name) name (omega arith)) (name-conditions (x .letters))) (shown shows (volume-short (x .volume) (omega (arith, h .volume)) network unit))) (price-short (x .price) (omega (arith, sound-below (x .price) (h .price))) (h .price .decimals) form)) tail-short in
       omega (arith, t .within)

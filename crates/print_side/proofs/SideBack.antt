@@ -20,6 +20,7 @@ use Rattle.rules.specs.Price.{wholePart, fraction, wholeText, fractionText, sho
 use Rattle.rules.specs.Side.{headText, tailText, sideText}
 use Rattle.rules.specs.declared.Price.{Price}
 use Rattle.rules.specs.declared.Side.{Side}
+use Rattle.line_owed.specs.Owed.{OwedSide}
 use Rattle.print_volume.specs.Reading.{Figure, digit, dot, stop, figure, figures, markAt, markText, Shown, unsaid, said, shownOf, shownText, readVolume}
 use Rattle.print_price.specs.Reading.{readPrice, shownPrice}
 use Rattle.text.specs.Reading.{dotDigit}
@@ -158,10 +159,7 @@ within-if false x h = unsaid-within
 -- what a line's side owes: values within document 01's, a head in the upper row
 pub record SideOk (name : List ℕ) (x : Side) : Type 0 where
   pub upper : all isUpper (headText name (x .letters)) ≡ true
-  pub volume : x .volume < 1000000000
-  pub price : 1 ≤ x .price .n
-  pub decimals : x .price .d ≤ 8
-  pub previous : x .previous .d ≤ 8
+  pub owed : OwedSide x
 
 -- THE SIDE COMES BACK, whatever the unit and the network, in full or short, the volume shown or not
 pub side-back : (name : List ℕ) (network unit : ℕ) (form : PriceForm) (shows : Bool) (x : Side) (s : List ℕ) → SideOk name x → Ends s → readSide (sideText name network unit form shows x ++ s) ≡ found (sideShown name network unit form shows x) s
@@ -172,9 +170,9 @@ side-back name network unit form shows x s o e =
     let v : Shown = pick shows (shownOf network unit (x .volume)) unsaid in
     let m : NoMore t = record { digit = tail-digit x s (e .digit); dot = tail-dot x s (e .dot) } in
     let k : markAt ((figures 0 p) .rest) ≡ none = rw (run-is form (x .price) t m) (tail-mark x s (e .mark)) in
-    let w : readVolume (shownText v ++ p) ≡ found v p = shown-back v p (within-if shows _ (shown-within network unit (x .volume) (o .volume))) (lower-price form (x .price) t (o .price)) k in
-    let u : span isUpper (headText name (x .letters) ++ (shownText v ++ p)) ≡ found (headText name (x .letters)) (shownText v ++ p) = span-all isUpper _ _ (o .upper) (lower-shown v p (lower-price form (x .price) t (o .price))) in
-    rw (append-assoc, append-assoc, append-assoc, shown-if shows network unit (x .volume), u, w, price-back form (x .price) t (o .decimals) m, tail-back x s (o .previous) e)
+    let w : readVolume (shownText v ++ p) ≡ found v p = shown-back v p (within-if shows _ (shown-within network unit (x .volume) (o .owed .volume))) (lower-price form (x .price) t (o .owed .priced)) k in
+    let u : span isUpper (headText name (x .letters) ++ (shownText v ++ p)) ≡ found (headText name (x .letters)) (shownText v ++ p) = span-all isUpper _ _ (o .upper) (lower-shown v p (lower-price form (x .price) t (o .owed .priced))) in
+    rw (append-assoc, append-assoc, append-assoc, shown-if shows network unit (x .volume), u, w, price-back form (x .price) t (o .owed .price .decimals) m, tail-back x s (o .owed .decimals) e)
 
 -- what follows a head is in the lower row
 pub side-lower : (network unit v : ℕ) (form : PriceForm) (shows : Bool) (p : Price) (s : List ℕ) → 1 ≤ p .n → heads isUpper (opt shows (volumeText network unit v) ++ (priceText form p ++ s)) ≡ false

@@ -15,7 +15,7 @@ ghost use Rattle.rules.specs.Conditions.{afterName};
 ghost use Rattle.rules.specs.Sizes.{nameWidth};
 ghost use mathlib.Core.Bool.{false};
 ghost use mathlib.Core.List.{[]};
-ghost use Rattle.print_side.specs.Columns.{SideColumns};
+ghost use Rattle.line_owed.specs.Owed.{SideColumns};
 
 // The volume, where it is shown.
 fn shown_volume_length(shows: bool, network: u64, unit: u64, v: u64) -> usize

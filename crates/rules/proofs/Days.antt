@@ -15,8 +15,8 @@ pub none-there : isEntered vacant ≡ false
 unfolding isEntered vacant
 none-there = refl
 
--- a place is entered by its unit alone
-pub entered-alike : (s t : Security) → s .issue .unit ≡ t .issue .unit → isEntered s ≡ isEntered t
+-- a place is entered by its issue alone
+pub entered-alike : (s t : Security) → s .issue ≡ t .issue → isEntered s ≡ isEntered t
 unfolding isEntered
 entered-alike s t e = rw e
 

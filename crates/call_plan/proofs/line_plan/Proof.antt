@@ -1,4 +1,5 @@
-use Rattle.call_plan.proofs.Plans.{kinds, sound-listed, sound-traded, sound-cancelled, sound-erred, sound-corrected}
+use Rattle.call_plan.proofs.Plans.{kinds}
+use Rattle.line_owed.proofs.Owed.{owed-kinds}
 use borrow.Author.Needs.{needs}
 use Rattle.call_plan.proofs.line_plan.Statement.{statement}
 use Rattle.call_plan.proofs.line_plan.Tie as tie
@@ -13,7 +14,7 @@ enum-known-l-2 : tie.Need-enum-known-l-2
 enum-known-l-2 c = search needs
 
 listing-plan-requires : tie.Need-listing-plan-requires
-listing-plan-requires c κs = (search sound-listed, search needs)
+listing-plan-requires c κs = (search owed-kinds, search needs)
 
 enum-known-l-3 : tie.Need-enum-known-l-3
 enum-known-l-3 c = search needs
@@ -28,25 +29,25 @@ enum-known-l-6 : tie.Need-enum-known-l-6
 enum-known-l-6 c = search needs
 
 trade-at-requires : tie.Need-trade-at-requires
-trade-at-requires c κs = search sound-traded
+trade-at-requires c κs = search owed-kinds
 
 enum-known-l-7 : tie.Need-enum-known-l-7
 enum-known-l-7 c = search needs
 
 cancel-at-requires : tie.Need-cancel-at-requires
-cancel-at-requires c κs = search sound-cancelled
+cancel-at-requires c κs = search owed-kinds
 
 enum-known-l-8 : tie.Need-enum-known-l-8
 enum-known-l-8 c = search needs
 
 cancel-at-requires-2 : tie.Need-cancel-at-requires-2
-cancel-at-requires-2 c κs = search sound-erred
+cancel-at-requires-2 c κs = search owed-kinds
 
 enum-known-l-9 : tie.Need-enum-known-l-9
 enum-known-l-9 c = search needs
 
 correction-at-requires : tie.Need-correction-at-requires
-correction-at-requires c κs = search sound-corrected
+correction-at-requires c κs = search owed-kinds
 
 returns : tie.Need-returns
 returns c = search kinds

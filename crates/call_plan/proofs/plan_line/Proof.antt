@@ -1,6 +1,6 @@
 use Rattle.text.proofs.Told.{answers}
 use Rattle.call_plan.specs.Plan.{planOf}
-use Rattle.call_plan.proofs.Ranged.{shaped, shaped-some}
+use Rattle.call_plan.proofs.Read.{shaped, shaped-some}
 use borrow.Author.Needs.{needs}
 use Rattle.call_plan.proofs.plan_line.Statement.{statement}
 use Rattle.call_plan.proofs.plan_line.Tie as tie

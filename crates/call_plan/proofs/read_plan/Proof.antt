@@ -1,4 +1,4 @@
-use Rattle.call_plan.proofs.Ranged.{sound-line, not-formed, not-ranged, read-through}
+use Rattle.call_plan.proofs.Read.{owed-read, not-formed, not-ranged, read-through}
 use borrow.Author.Needs.{needs}
 use Rattle.rules.proofs.Fields.{name-length}
 use Rattle.call_plan.proofs.read_plan.Statement.{statement}
@@ -23,7 +23,7 @@ part-line-plan-end : tie.Need-part-line-plan-end
 part-line-plan-end c = search needs
 
 line-plan-requires : tie.Need-line-plan-requires
-line-plan-requires c κs = (search sound-line, search name-length)
+line-plan-requires c κs = (search owed-read, search name-length)
 
 returns-3 : tie.Need-returns-3
 returns-3 c = search read-through

@@ -10,7 +10,7 @@ use Rattle.call_print.proofs.fitted.Tie as tie
 returns : tie.Need-returns
 returns c =
     let s = c .before .before in
-    any-fits (s .args .st) (printedName (s .args .names .now) (s .args .p)) (s .args .line .now) _ (omega (arith, s .good .0)) (printed-short (s .args .names .now) (s .args .p)) (s .args .p) (s .args .room) (s .good .1 .1 .1 .0) (search needs) (search needs)
+    any-fits (s .args .st) (printedName (s .args .names .now) (s .args .p)) (s .args .line .now) (omega (arith, s .good .0)) (printed-short (s .args .names .now) (s .args .p)) (s .args .p) (s .args .room) (search needs) (search needs)
 
 text-length-requires : tie.Need-text-length-requires
 text-length-requires c κs = search needs

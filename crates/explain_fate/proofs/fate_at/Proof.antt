@@ -1,4 +1,5 @@
-use Rattle.explain_fate.proofs.Fates.{kinds, sounds}
+use Rattle.explain_fate.proofs.Fates.{kinds}
+use Rattle.line_owed.proofs.Owed.{owed-kinds}
 use borrow.Author.Needs.{needs}
 use Rattle.explain_fate.proofs.fate_at.Statement.{statement}
 use Rattle.explain_fate.proofs.fate_at.Tie as tie
@@ -25,25 +26,25 @@ enum-known-l : tie.Need-enum-known-l
 enum-known-l c = search needs
 
 trade-fate-requires : tie.Need-trade-fate-requires
-trade-fate-requires c κs = search sounds
+trade-fate-requires c κs = search owed-kinds
 
 enum-known-l-2 : tie.Need-enum-known-l-2
 enum-known-l-2 c = search needs
 
 cancel-fate-requires : tie.Need-cancel-fate-requires
-cancel-fate-requires c κs = search sounds
+cancel-fate-requires c κs = search owed-kinds
 
 enum-known-l-3 : tie.Need-enum-known-l-3
 enum-known-l-3 c = search needs
 
 cancel-fate-requires-2 : tie.Need-cancel-fate-requires-2
-cancel-fate-requires-2 c κs = search sounds
+cancel-fate-requires-2 c κs = search owed-kinds
 
 enum-known-l-4 : tie.Need-enum-known-l-4
 enum-known-l-4 c = search needs
 
 correction-fate-requires : tie.Need-correction-fate-requires
-correction-fate-requires c κs = search sounds
+correction-fate-requires c κs = search owed-kinds
 
 returns : tie.Need-returns
 returns c = search kinds

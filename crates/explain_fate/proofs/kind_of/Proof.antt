@@ -1,6 +1,6 @@
 use Rattle.text.proofs.Told.{answers}
 use Rattle.explain_fate.specs.Explained.{kindIn}
-use Rattle.call_plan.proofs.Ranged.{shaped-some}
+use Rattle.call_plan.proofs.Read.{shaped-some}
 use borrow.Author.Needs.{needs}
 use Rattle.explain_fate.proofs.kind_of.Statement.{statement}
 use Rattle.explain_fate.proofs.kind_of.Tie as tie

@@ -1,4 +1,4 @@
--- A number is below ten to the power of its columns. Assumes nothing.
+-- What a number in its columns and within its values is at most. Assumes nothing.
 use Prim.Native.Nat.{ℕ, suc, _+_, _-_, _*_, _^_, _≤_, _<_}
 use native.Mathlib.Nat.{pow-suc, pow-le-pow-right, one-le-pow, mul-le-mul-right, mul-assoc, mul-comm}
 use native.Mathlib.Omega.{arith}
@@ -10,9 +10,9 @@ use lib.ListN.{length}
 use borrow.Author.Tests.{leb-true}
 use Rattle.text.specs.Pick.{pick}
 use Rattle.text.specs.Reading.{isDigit}
-use Rattle.rules.specs.Columns.{isBlank, justified, digitsFrom, zeroAlone, numeral, numberIn, valueOf}
-use Rattle.rules.specs.declared.Number.{Number}
-use Rattle.rules.specs.declared.Number.the-variants.{Blank, Bad, Is}
+use Rattle.text.proofs.Texts.{and-left, and-right}
+use Rattle.rules.specs.Columns.{isBlank, justified, digitsFrom, zeroAlone, numeral, numberIn, valueOf, between}
+use Rattle.rules.specs.declared.Number.the-variants.{Bad}
 
 digits-below : (s : List ℕ) (acc : ℕ) → valueOf (digitsFrom acc s) < (acc + 1) * 10 ^ length s
 unfolding digitsFrom pick valueOf isDigit
@@ -61,3 +61,7 @@ justified-short (c ∷ s) = go (isBlank c) (justified-short s)
 pub number-below : (k : ℕ) (s : List ℕ) → length s ≤ k → valueOf (numberIn s) < 10 ^ k
 unfolding numberIn
 number-below k s h = omega (arith, numeral-below (justified s), pow-le-pow-right {n = 10} (omega arith) {i = length (justified s)} {j = k} (omega (arith, justified-short s)))
+
+pub in-range : (low high n : ℕ) → between low high n ≡ true → (low ≤ n) × (n ≤ high)
+unfolding between
+in-range low high n h = (leb-true low n (and-left (leb low n) _ h), leb-true n high (and-right (leb low n) _ h))

@@ -6,7 +6,7 @@ use mathlib.Core.Bool.{Bool, true, false, _||_, not}
 use mathlib.Core.List.{List, [], _∷_}
 use lib.Dec.{eqb, leb}
 use lib.ListN.{length}
-use borrow.Author.Tests.{eqb-true, eqb-false, not-true}
+use borrow.Author.Tests.{eqb-true, not-true}
 use Rattle.text.specs.Bytes.{bytes}
 use Rattle.text.specs.Pick.{pick, among}
 use Rattle.text.specs.Reading.{span}
@@ -17,7 +17,7 @@ use Rattle.text.proofs.Parts.{span-short}
 use Rattle.rules.specs.Columns.{word, notBlank}
 use Rattle.rules.specs.Conditions.{lettersIn, unrepeated}
 use Rattle.rules.specs.Shown.{shownLetters}
-use Rattle.claim_compose.specs.Shown.{one, letterCount}
+use Rattle.line_owed.specs.Shown.{one, letterCount}
 
 -- how many of the letters stand in the text
 counted : List ℕ → List ℕ → ℕ

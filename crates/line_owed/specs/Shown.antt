@@ -1,13 +1,14 @@
 -- What one line can show of a security, a side and a tape's announcement, by document 01's rules for lines. Assumes nothing.
 use Prim.Native.Nat.{ℕ, _+_}
 use mathlib.Core.Path.{_≡_}
-use mathlib.Core.Bool.{Bool, true, false, _&&_, _||_, not}
+use mathlib.Core.Bool.{Bool, true, _&&_, not}
 use mathlib.Core.List.{List}
 use lib.Dec.{eqb, leb}
 use lib.ListN.{length}
 use Rattle.text.specs.Pick.{pick, all}
 use Rattle.rules.specs.Columns.{between}
 use Rattle.rules.specs.Conditions.{onNetwork}
+use Rattle.rules.specs.Shown.{shownLetters}
 use Rattle.rules.specs.Line.{isPrintable, isNetwork, isUnit, isPrice}
 use Rattle.rules.specs.declared.Letters.{Letters}
 use Rattle.rules.specs.declared.Side.{Side}
@@ -46,3 +47,7 @@ pub record Showable (network : ℕ) (x : Side) : Type 0 where
   pub price-fits : isPrice (x .price .n) (x .price .d) ≡ true
   pub days-fit : pick (x .letters .r) (between 1 999 (x .days)) (eqb (x .days) 0) ≡ true
   pub previous-fits : pick (x .letters .g) (isPrice (x .previous .n) (x .previous .d)) (eqb (x .previous .n) 0 && eqb (x .previous .d) 0) ≡ true
+
+-- a side with its letters as a print shows them
+unfoldable pub shownSide : Side → Side
+shownSide x = record { volume = x .volume; price = x .price; letters = shownLetters (x .letters); days = x .days; previous = x .previous }

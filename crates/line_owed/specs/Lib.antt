@@ -1,0 +1,4 @@
+pub mod Shown
+pub mod Owed
+pub mod Accepted
+pub mod Reached
