@@ -94,24 +94,6 @@ pub fn is_shaped(line: &[u8]) -> bool
     line_fields::is_printable_text(line)
 }
 
-// The nine kinds.
-fn is_kind(c: u8) -> bool
-    ensures { λ r. ⌜ r ≡ isKind c ⌝ }
-{
-    match c {
-        b'D' => true,
-        b'S' => true,
-        b'M' => true,
-        b'V' => true,
-        b'P' => true,
-        b'T' => true,
-        b'X' => true,
-        b'E' => true,
-        b'C' => true,
-        _ => false,
-    }
-}
-
 // Not a D, and no D accepted yet.
 fn is_undated(st: Settings, kind: u8) -> bool
     ensures { λ r. ⌜ r ≡ (not (eqb kind 68) && eqb (st .date) 0) ⌝ }
@@ -408,7 +390,7 @@ pub fn plan_line(st: Settings, table: &Table, names: &Names, line: &[u8]) -> Pla
         return Plan::Stop(Refusal::Shape);
     }
     let kind = line[0];
-    if !is_kind(kind) {
+    if !line_fields::is_kind(kind) {
         return Plan::Stop(Refusal::Kind);
     }
     if is_undated(st, kind) {

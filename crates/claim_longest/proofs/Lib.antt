@@ -15,3 +15,5 @@ pub mod Determined
 pub mod Following
 pub mod RoundTrip
 pub mod Tape
+pub mod Short
+pub mod Ahead

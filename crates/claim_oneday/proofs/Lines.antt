@@ -21,8 +21,8 @@ use Rattle.rules.specs.declared.Line.{Line}
 use Rattle.rules.specs.declared.Line.the-variants.{Dated, Listed, Moded, Leveled, Stepped, Traded, Cancelled, Erred, Corrected}
 use Rattle.rules.specs.declared.Refusal.{Refusal}
 use Rattle.rules.proofs.Some.{some-minimum, some-mode, some-level}
-use Rattle.claim_normal.specs.Invariant.{Invariant}
-use Rattle.claim_normal.proofs.Days.{held-fresh, held-after}
+use Rattle.line_owed.specs.Reached.{Reached}
+use Rattle.line_owed.proofs.Reached.{kept-fresh, kept-call}
 use Rattle.claim_daytape.specs.Claim.{dayOfLines}
 use Rattle.claim_daytape.proofs.Room.{never-short}
 use Rattle.explain_fate.specs.Explained.{securityOf, tradeFate, cancelFate, correctionFate, stepFate, fateAt, fateOf, fateBy, isOnTape}
@@ -74,17 +74,17 @@ call-shown day c = go (refusalOf day (c .line) (c .room))
 
 -- ---- a day that lines lead to
 
-reached-from : (day : Day) (ls : List (List ℕ)) → Invariant day → Invariant (dayOfLines day ls)
+reached-from : (day : Day) (ls : List (List ℕ)) → Reached day → Reached (dayOfLines day ls)
 unfolding dayOfLines
 reached-from day [] h = h
-reached-from day (l ∷ ls) h = reached-from (after day (ample l)) ls (held-after day (ample l) h)
+reached-from day (l ∷ ls) h = reached-from (after day (ample l)) ls (kept-call day (ample l) h)
 
 pub one-line : (l : DayLine) → OneLine l
 one-line l =
     let day = dayFound l in
     let c = callMade l in
     record {
-      room-enough = never-short day (l .line) (reached-from fresh (l .before) held-fresh) longestPrint (omega arith);
+      room-enough = never-short day (l .line) (reached-from fresh (l .before) kept-fresh) longestPrint (omega arith);
       number-is = number-by day c;
       shown-is = call-shown day c ∙ on-tape-exactly day c;
       on-tape-is = on-tape-exactly day c;

@@ -115,10 +115,22 @@ pub fn is_among(c: u8, group: &[u8]) -> bool
     false
 }
 
+// The nine kinds.
 pub fn is_kind(c: u8) -> bool
     ensures { λ r. ⌜ r ≡ isKind c ⌝ }
 {
-    is_among(c, b"DSMVPTXEC")
+    match c {
+        b'D' => true,
+        b'S' => true,
+        b'M' => true,
+        b'V' => true,
+        b'P' => true,
+        b'T' => true,
+        b'X' => true,
+        b'E' => true,
+        b'C' => true,
+        _ => false,
+    }
 }
 
 pub fn is_market(c: u8) -> bool

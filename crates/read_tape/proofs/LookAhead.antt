@@ -15,7 +15,7 @@ use Rattle.text.proofs.Booleans.{and-false}
 use Rattle.rules.specs.Sizes.{longestPrint}
 use Rattle.reader.specs.Read.{printAt, readAt}
 use Rattle.reader.specs.Told.{lengthOf}
-use Rattle.claim_short.proofs.Ahead.{ahead}
+use Rattle.claim_longest.proofs.Ahead.{ahead}
 use Rattle.read_tape.specs.Tape.{lineOf, printsFrom, readFrom}
 use Rattle.read_tape.specs.Block.{Progress, started, printRead, mayRead, blockFrom, blockRead}
 use Rattle.read_tape.proofs.Blocks.{from-zero, from-on, from-off, may-left, read-within, at-further, on-some, on-place}

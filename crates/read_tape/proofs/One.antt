@@ -15,7 +15,7 @@ use Rattle.text_right.proofs.Writes.{length-right}
 use Rattle.reader.specs.declared.ReadAnswer.{ReadAnswer}
 use Rattle.reader.specs.Read.{readAt}
 use Rattle.reader.specs.Told.{lengthOf}
-use Rattle.claim_short.proofs.Ahead.{read-short}
+use Rattle.claim_longest.proofs.Ahead.{read-short}
 use Rattle.read_tape.specs.Tape.{lineOf}
 use Rattle.read_tape.specs.Block.{printRead, Steps}
 use Rattle.read_tape.specs.declared.Reading.{Reading}

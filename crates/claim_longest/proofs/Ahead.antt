@@ -13,9 +13,9 @@ use Rattle.reader.specs.declared.ReadAnswer.the-variants.{Announcement, Trade, 
 use Rattle.reader.specs.Read.{printAt, readAt}
 use Rattle.reader.specs.Told.{lengthOf, nameLength, nameIn, nameAt, factIn}
 use Rattle.reader.proofs.Bounds.{print-within}
 use Rattle.claim_longest.proofs.Longest.{no-fact, no-length, longest-print}
 use Rattle.claim_longest.proofs.Determined.{determined}
-use Rattle.claim_short.proofs.Short.{print-short}
+use Rattle.claim_longest.proofs.Short.{print-short}
 
 -- no facts, no name
 no-name : (s : List ℕ) (r : ReadAnswer) → factIn s r ≡ none → nameIn s r ≡ []
