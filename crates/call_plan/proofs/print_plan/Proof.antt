@@ -36,6 +36,7 @@ shows-by-requires c κs = search needs
 after-by-requires : tie.Need-after-by-requires
 after-by-requires c κs = search needs
 
+-- each call answered what the rules say of the side; the law is applied outright, since a search among a whole security is too wide
 returns : tie.Need-returns
 returns c =
     planned _ _ _ _ _ _ _ _ _ _ _ _ _

@@ -7,6 +7,7 @@ use borrow.Author.Needs.{needs}
 use Rattle.call_print.proofs.fitted.Statement.{statement}
 use Rattle.call_print.proofs.fitted.Tie as tie
 
+-- with room for the longest print nothing need be asked: no name is longer than 22 bytes, so no print than that
 returns : tie.Need-returns
 returns c =
     let s = c .before .before in

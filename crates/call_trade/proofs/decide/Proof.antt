@@ -27,6 +27,7 @@ store-requires c κs = search needs
 returns : tie.Need-returns
 returns c = search left-off
 
+-- each value that was worked out is the one that the rules ask for, and the trade prints
 print-out-requires : tie.Need-print-out-requires
 print-out-requires c κs =
     let e = c .before .before in

@@ -40,6 +40,7 @@ same-length-3 c = search needs
 same-length-4 : tie.Need-same-length-4 Inv-loop μ-loop
 same-length-4 c = search needs
 
+-- no room for the next line: what stands so far is what the definition stops at
 returns-2 : tie.Need-returns-2 Inv-loop μ-loop
 returns-2 c =
     let room = c .before in
@@ -48,6 +49,7 @@ returns-2 c =
     let turn = trades .before .before .before .before .before .before .before in
     turn-stop (turn .loop .inv) (trades .feed-trades .ensures) (ends .line-end .ensures) (room .before .if2 .left) (room .room-left .ensures) (c .if3 .taken)
 
+-- the line is the part of the block up to its line feed; the room that was asked for holds its print and its refusal line
 feed-line-requires : tie.Need-feed-line-requires Inv-loop μ-loop
 feed-line-requires c κs =
     let is = c .before .before .before .before in
@@ -56,6 +58,7 @@ feed-line-requires c κs =
 loop-less : tie.Need-loop-less Inv-loop μ-loop
 loop-less c = search turn-less
 
+-- a turn: trades in a row, then one line of any kind, for which there was room; together the next lines of the block
 loop-again : tie.Need-loop-again Inv-loop μ-loop
 loop-again c =
     let line = c .before .before .before .before in

@@ -29,6 +29,7 @@ returns-2 c =
     let room = c .before in
     last-stop (room .before .before .before .before .before .feed-trades .ensures) (room .before .if1 .left) (room .room-left .ensures) (c .if2 .taken)
 
+-- as in `feed`: the room that was asked for holds the print and the refusal line
 feed-line-requires : tie.Need-feed-line-requires
 feed-line-requires c κs =
     let is = c .before .before .before .before in

@@ -58,6 +58,7 @@ same-length c = search needs
 same-length-2 : tie.Need-same-length-2
 same-length-2 c = search needs
 
+-- the call by its plan, the length that it answered and the refusal line written behind are one line taken
 returns : tie.Need-returns
 returns c = let q = c .before .before .before .before .before .before .before .before .before .before .before .before .before .before .before .before .before .before .pre in line-gone _ _ _ _ _ _ _ _ _ _ _ _ _ _ (c .before .before .before .before .before .before .before .before .before .take-by-plan .ensures) (c .before .before .before .before .before .count-of .ensures) (c .before .before .before .write-told .ensures) (q .0) (q .1) (q .2) (q .3)
 

@@ -31,6 +31,7 @@ part-lay-part-start-2 c = search needs
 part-lay-part-end-2 : tie.Need-part-lay-part-end-2
 part-lay-part-end-2 c = search needs
 
+-- the root leaves room for the suffix: of the 19 columns each part has its own, and the bytes laid so far are no more than theirs
 lay-part-requires : tie.Need-lay-part-requires
 lay-part-requires c κs = let p = parts (c .before .before .before .before .before .before .before .before .before .args .name .now) (omega arith) in (omega arith, omega arith, laid-room _ (c .before .before .before .before .lay-word .ensures .0) (omega arith))
 
@@ -55,6 +56,7 @@ part-lay-shown-start-2 c = search needs
 part-lay-shown-end-2 : tie.Need-part-lay-shown-end-2
 part-lay-shown-end-2 c = search needs
 
+-- root and suffix joined are one laid text, which leaves room for the temporary suffix
 lay-shown-requires : tie.Need-lay-shown-requires
 lay-shown-requires c κs = let p = parts (c .before .before .before .before .before .before .before .before .before .before .before .before .before .before .args .name .now) (omega arith) in (omega arith, omega arith, laid-room _ (laid-then (c .before .before .before .before .before .before .before .before .before .lay-word .ensures .0) (c .before .before .before .before .lay-part .ensures .0)) (omega arith))
 
@@ -79,6 +81,7 @@ part-lay-shown-start-4 c = search needs
 part-lay-shown-end-4 : tie.Need-part-lay-shown-end-4
 part-lay-shown-end-4 c = search needs
 
+-- root, suffix and temporary suffix joined are one laid text, which leaves room for the appendage
 lay-shown-requires-2 : tie.Need-lay-shown-requires-2
 lay-shown-requires-2 c κs = let p = parts (c .before .before .before .before .before .before .before .before .before .before .before .before .before .before .before .before .before .before .before .args .name .now) (omega arith) in (omega arith, omega arith, laid-room _ (laid-then (laid-then (c .before .before .before .before .before .before .before .before .before .before .before .before .before .before .lay-word .ensures .0) (c .before .before .before .before .before .before .before .before .before .lay-part .ensures .0)) (c .before .before .before .before .lay-shown .ensures .0)) (omega arith))
 

@@ -62,6 +62,7 @@ slice-aggregate-write-bytes-3 c = search needs
 write-bytes-requires-3 : tie.Need-write-bytes-requires-3
 write-bytes-requires-3 c κs = search back-room
 
+-- three writes within the lent part, and a byte between them, leave its length as it was
 same-length : tie.Need-same-length
 same-length c = let a = c .before .before .before .before .before .before .before .before .before .before .before .before .before .before .before .before .before .before .before .before .before .args in columns-size _ (a .rest .now) _ _ _ _ _ (a .k) (a .m) _ _ _ (c .before .before .before .before .before .before .before .before .before .before .before .before .write-bytes .ensures) (c .before .before .before .before .before .before .before .write-bytes2 .ensures) (c .before .before .write-bytes3 .ensures) (omega arith) (omega arith)
 
