@@ -8,10 +8,10 @@ use Rattle.explain_reasons.specs.Reasons.{someFull, someVolume}
 use Rattle.explain_reasons.specs.declared.PrintReasons.{PrintReasons}
 use Rattle.explain_reasons.specs.declared.FullReasons.{FullReasons}
 use Rattle.explain_reasons.specs.declared.VolumeReasons.{VolumeReasons}
-use Rattle.explain_words.specs.Text.{rangeReasons, firstReasons, unitReasons, lastReasons, printReasons, priceWord, tensReasons, wholeReasons, sideReasons, fullReasons, priceText, volumeWord, levelReasons, ruleReasons, volumeReasons, volumeText, reasonsText}
+use Rattle.explain_words.specs.Text.{three, printReasons, priceWord, fullReasons, priceText, volumeWord, volumeReasons, volumeText, reasonsText}
 
 print-short : (r : PrintReasons) → length (printReasons r) ≤ 104
-unfolding printReasons rangeReasons firstReasons unitReasons lastReasons
+unfolding printReasons three
 print-short r =
     simp length-append
     (omega (
@@ -34,7 +34,7 @@ print-short r =
     ))
 
 price-short : (r : FullReasons) → length (priceText r) ≤ 67
-unfolding priceText priceWord fullReasons tensReasons wholeReasons sideReasons
+unfolding priceText priceWord fullReasons three
 price-short r =
     simp length-append
     (omega (
@@ -52,7 +52,7 @@ price-short r =
     ))
 
 volume-short : (r : VolumeReasons) → length (volumeText r) ≤ 41
-unfolding volumeText volumeWord volumeReasons levelReasons ruleReasons
+unfolding volumeText volumeWord volumeReasons three
 volume-short r =
     simp length-append
     (omega (

@@ -14,7 +14,25 @@ ghost use Prim.Native.Nat.{_≤_};
 ghost use lib.ListN.{length};
 ghost use Rattle.text.specs.Put.{Written};
 ghost use Rattle.explain_reasons.specs.Reasons.{someFull, someVolume};
-ghost use Rattle.explain_words.specs.Text.{rangeReasons, firstReasons, unitReasons, lastReasons, printReasons, priceWord, tensReasons, wholeReasons, sideReasons, fullReasons, priceText, volumeWord, levelReasons, ruleReasons, volumeReasons, volumeText, reasonsText};
+ghost use Rattle.explain_words.specs.Text.{three, rangeReasons, firstReasons, unitReasons, ruleReasons, lastReasons, printReasons, priceWord, tensReasons, wholeReasons, sideReasons, fullReasons, priceText, volumeWord, levelReasons, volumeReasons, volumeText, reasonsText};
+
+// Three reasons, each where it is given.
+fn write_three(
+    rest: &mut [u8],
+    a: bool,
+    first: &[u8],
+    b: bool,
+    second: &[u8],
+    c: bool,
+    third: &[u8],
+) -> usize
+    requires { ⌜ length (three a (now first) b (now second) c (now third)) ≤ length (now rest) ⌝ }
+    ensures { λ n. ⌜ Written (three a (now (first .entry)) b (now (second .entry)) c (now (third .entry))) (now (rest .entry)) (now (rest .exit)) n ⌝ }
+{
+    let i = text::write_optional(rest, a, first);
+    let j = i + text::write_optional(&mut rest[i..], b, second);
+    j + text::write_optional(&mut rest[j..], c, third)
+}
 
 // ---- why it prints
 
@@ -22,39 +40,59 @@ fn write_range_reasons(rest: &mut [u8], r: PrintReasons) -> usize
     requires { ⌜ length (rangeReasons r) ≤ length (now rest) ⌝ }
     ensures { λ n. ⌜ Written (rangeReasons r) (now (rest .entry)) (now (rest .exit)) n ⌝ }
 {
-    let a = text::write_optional(rest, r.every, b":every");
-    let b = a + text::write_optional(&mut rest[a..], r.high, b":high");
-    let c = b + text::write_optional(&mut rest[b..], r.low, b":low");
-    c + text::write_optional(&mut rest[c..], r.price, b":price")
+    write_three(rest, r.every, b":every", r.high, b":high", r.low, b":low")
 }
 
 fn write_first_reasons(rest: &mut [u8], r: PrintReasons) -> usize
     requires { ⌜ length (firstReasons r) ≤ length (now rest) ⌝ }
     ensures { λ n. ⌜ Written (firstReasons r) (now (rest .entry)) (now (rest .exit)) n ⌝ }
 {
-    let a = text::write_optional(rest, r.distance, b":distance");
-    let b = a + text::write_optional(&mut rest[a..], r.first, b":first");
-    let c = b + text::write_optional(&mut rest[b..], r.six, b":six");
-    c + text::write_optional(&mut rest[c..], r.level, b":level")
+    write_three(
+        rest,
+        r.price,
+        b":price",
+        r.distance,
+        b":distance",
+        r.first,
+        b":first",
+    )
 }
 
 fn write_unit_reasons(rest: &mut [u8], r: PrintReasons) -> usize
     requires { ⌜ length (unitReasons r) ≤ length (now rest) ⌝ }
     ensures { λ n. ⌜ Written (unitReasons r) (now (rest .entry)) (now (rest .exit)) n ⌝ }
 {
-    let a = text::write_optional(rest, r.unit, b":unit");
-    let b = a + text::write_optional(&mut rest[a..], r.rule, b":rule");
-    let c = b + text::write_optional(&mut rest[b..], r.differ, b":differ");
-    c + text::write_optional(&mut rest[c..], r.seller, b":seller")
+    write_three(rest, r.six, b":six", r.level, b":level", r.unit, b":unit")
+}
+
+fn write_rule_reasons(rest: &mut [u8], r: PrintReasons) -> usize
+    requires { ⌜ length (ruleReasons r) ≤ length (now rest) ⌝ }
+    ensures { λ n. ⌜ Written (ruleReasons r) (now (rest .entry)) (now (rest .exit)) n ⌝ }
+{
+    write_three(
+        rest,
+        r.rule,
+        b":rule",
+        r.differ,
+        b":differ",
+        r.seller,
+        b":seller",
+    )
 }
 
 fn write_last_reasons(rest: &mut [u8], r: PrintReasons) -> usize
     requires { ⌜ length (lastReasons r) ≤ length (now rest) ⌝ }
     ensures { λ n. ⌜ Written (lastReasons r) (now (rest .entry)) (now (rest .exit)) n ⌝ }
 {
-    let a = text::write_optional(rest, r.last, b":last");
-    let b = a + text::write_optional(&mut rest[a..], r.originallevel, b":original-level");
-    b + text::write_optional(&mut rest[b..], r.originalrule, b":original-rule")
+    write_three(
+        rest,
+        r.last,
+        b":last",
+        r.originallevel,
+        b":original-level",
+        r.originalrule,
+        b":original-rule",
+    )
 }
 
 fn write_print_reasons(rest: &mut [u8], r: PrintReasons) -> usize
@@ -64,7 +102,8 @@ fn write_print_reasons(rest: &mut [u8], r: PrintReasons) -> usize
     let a = write_range_reasons(rest, r);
     let b = a + write_first_reasons(&mut rest[a..], r);
     let c = b + write_unit_reasons(&mut rest[b..], r);
-    c + write_last_reasons(&mut rest[c..], r)
+    let d = c + write_rule_reasons(&mut rest[c..], r);
+    d + write_last_reasons(&mut rest[d..], r)
 }
 
 // ---- why its price is in full
@@ -119,27 +158,45 @@ fn write_tens_reasons(rest: &mut [u8], r: FullReasons) -> usize
     requires { ⌜ length (tensReasons r) ≤ length (now rest) ⌝ }
     ensures { λ n. ⌜ Written (tensReasons r) (now (rest .entry)) (now (rest .exit)) n ⌝ }
 {
-    let a = text::write_optional(rest, r.normal, b":normal");
-    let b = a + text::write_optional(&mut rest[a..], r.none, b":none");
-    b + text::write_optional(&mut rest[b..], r.tens, b":tens")
+    write_three(
+        rest,
+        r.normal,
+        b":normal",
+        r.none,
+        b":none",
+        r.tens,
+        b":tens",
+    )
 }
 
 fn write_whole_reasons(rest: &mut [u8], r: FullReasons) -> usize
     requires { ⌜ length (wholeReasons r) ≤ length (now rest) ⌝ }
     ensures { λ n. ⌜ Written (wholeReasons r) (now (rest .entry)) (now (rest .exit)) n ⌝ }
 {
-    let a = text::write_optional(rest, r.zero, b":zero");
-    let b = a + text::write_optional(&mut rest[a..], r.unit, b":unit");
-    b + text::write_optional(&mut rest[b..], r.thousand, b":thousand")
+    write_three(
+        rest,
+        r.zero,
+        b":zero",
+        r.unit,
+        b":unit",
+        r.thousand,
+        b":thousand",
+    )
 }
 
 fn write_side_reasons(rest: &mut [u8], r: FullReasons) -> usize
     requires { ⌜ length (sideReasons r) ≤ length (now rest) ⌝ }
     ensures { λ n. ⌜ Written (sideReasons r) (now (rest .entry)) (now (rest .exit)) n ⌝ }
 {
-    let a = text::write_optional(rest, r.six, b":six");
-    let b = a + text::write_optional(&mut rest[a..], r.whole, b":whole");
-    b + text::write_optional(&mut rest[b..], r.original, b":original")
+    write_three(
+        rest,
+        r.six,
+        b":six",
+        r.whole,
+        b":whole",
+        r.original,
+        b":original",
+    )
 }
 
 fn write_full_reasons(rest: &mut [u8], r: FullReasons) -> usize
@@ -194,17 +251,15 @@ fn write_level_reasons(rest: &mut [u8], r: VolumeReasons) -> usize
     requires { ⌜ length (levelReasons r) ≤ length (now rest) ⌝ }
     ensures { λ n. ⌜ Written (levelReasons r) (now (rest .entry)) (now (rest .exit)) n ⌝ }
 {
-    let a = text::write_optional(rest, r.normal, b":normal");
-    let b = a + text::write_optional(&mut rest[a..], r.level, b":level");
-    b + text::write_optional(&mut rest[b..], r.first, b":first")
-}
-
-fn write_rule_reasons(rest: &mut [u8], r: VolumeReasons) -> usize
-    requires { ⌜ length (ruleReasons r) ≤ length (now rest) ⌝ }
-    ensures { λ n. ⌜ Written (ruleReasons r) (now (rest .entry)) (now (rest .exit)) n ⌝ }
-{
-    let a = text::write_optional(rest, r.six, b":six");
-    a + text::write_optional(&mut rest[a..], r.rule, b":rule")
+    write_three(
+        rest,
+        r.normal,
+        b":normal",
+        r.level,
+        b":level",
+        r.first,
+        b":first",
+    )
 }
 
 fn write_volume_reasons(rest: &mut [u8], r: VolumeReasons) -> usize
@@ -212,7 +267,8 @@ fn write_volume_reasons(rest: &mut [u8], r: VolumeReasons) -> usize
     ensures { λ n. ⌜ Written (volumeReasons r) (now (rest .entry)) (now (rest .exit)) n ⌝ }
 {
     let a = write_level_reasons(rest, r);
-    a + write_rule_reasons(&mut rest[a..], r)
+    let b = a + text::write_optional(&mut rest[a..], r.six, b":six");
+    b + text::write_optional(&mut rest[b..], r.rule, b":rule")
 }
 
 fn write_volume(rest: &mut [u8], r: VolumeReasons) -> usize

@@ -40,6 +40,22 @@ write-unit-reasons-requires c κs = search rooms depth 24
 add-c : tie.Need-add-c
 add-c c = search needs
 
+sub-write-rule-reasons : tie.Need-sub-write-rule-reasons
+sub-write-rule-reasons c = search needs
+
+part-write-rule-reasons-start : tie.Need-part-write-rule-reasons-start
+part-write-rule-reasons-start c = search needs
+
+part-write-rule-reasons-end : tie.Need-part-write-rule-reasons-end
+part-write-rule-reasons-end c = search needs
+
+write-rule-reasons-requires : tie.Need-write-rule-reasons-requires
+unfolding printReasons
+write-rule-reasons-requires c κs = search rooms depth 24
+
+add-d : tie.Need-add-d
+add-d c = search needs
+
 sub-write-last-reasons : tie.Need-sub-write-last-reasons
 sub-write-last-reasons c = search needs
 
@@ -78,6 +94,11 @@ write-print-reasons-spec =
     part-write-unit-reasons-end
     write-unit-reasons-requires
     add-c
+    sub-write-rule-reasons
+    part-write-rule-reasons-start
+    part-write-rule-reasons-end
+    write-rule-reasons-requires
+    add-d
     sub-write-last-reasons
     part-write-last-reasons-start
     part-write-last-reasons-end

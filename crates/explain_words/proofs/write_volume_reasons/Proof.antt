@@ -8,18 +8,40 @@ write-level-reasons-requires : tie.Need-write-level-reasons-requires
 unfolding volumeReasons
 write-level-reasons-requires c κs = search rooms depth 24
 
-sub-write-rule-reasons : tie.Need-sub-write-rule-reasons
-sub-write-rule-reasons c = search needs
+sub-write-optional : tie.Need-sub-write-optional
+sub-write-optional c = search needs
 
-part-write-rule-reasons-start : tie.Need-part-write-rule-reasons-start
-part-write-rule-reasons-start c = search needs
+part-write-optional-start : tie.Need-part-write-optional-start
+part-write-optional-start c = search needs
 
-part-write-rule-reasons-end : tie.Need-part-write-rule-reasons-end
-part-write-rule-reasons-end c = search needs
+part-write-optional-end : tie.Need-part-write-optional-end
+part-write-optional-end c = search needs
 
-write-rule-reasons-requires : tie.Need-write-rule-reasons-requires
+slice-aggregate-write-optional : tie.Need-slice-aggregate-write-optional
+slice-aggregate-write-optional c = search needs
+
+write-optional-requires : tie.Need-write-optional-requires
 unfolding volumeReasons
-write-rule-reasons-requires c κs = search rooms depth 24
+write-optional-requires c κs = search rooms depth 24
+
+add-b : tie.Need-add-b
+add-b c = search needs
+
+sub-write-optional-2 : tie.Need-sub-write-optional-2
+sub-write-optional-2 c = search needs
+
+part-write-optional-start-2 : tie.Need-part-write-optional-start-2
+part-write-optional-start-2 c = search needs
+
+part-write-optional-end-2 : tie.Need-part-write-optional-end-2
+part-write-optional-end-2 c = search needs
+
+slice-aggregate-write-optional-2 : tie.Need-slice-aggregate-write-optional-2
+slice-aggregate-write-optional-2 c = search needs
+
+write-optional-requires-2 : tie.Need-write-optional-requires-2
+unfolding volumeReasons
+write-optional-requires-2 c κs = search rooms depth 24
 
 add-result : tie.Need-add-result
 add-result c = search needs
@@ -36,10 +58,17 @@ write-volume-reasons-spec =
     tie.close
     (tie.spec
     write-level-reasons-requires
-    sub-write-rule-reasons
-    part-write-rule-reasons-start
-    part-write-rule-reasons-end
-    write-rule-reasons-requires
+    sub-write-optional
+    part-write-optional-start
+    part-write-optional-end
+    slice-aggregate-write-optional
+    write-optional-requires
+    add-b
+    sub-write-optional-2
+    part-write-optional-start-2
+    part-write-optional-end-2
+    slice-aggregate-write-optional-2
+    write-optional-requires-2
     add-result
     same-length
     returns)
