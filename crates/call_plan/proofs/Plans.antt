@@ -30,7 +30,7 @@ use Rattle.call_plan.specs.declared.CancelPlan.{CancelPlan}
 use Rattle.call_plan.specs.declared.CorrectionPlan.{CorrectionPlan}
 use Rattle.call_plan.specs.declared.Plan.{Plan}
 use Rattle.call_plan.specs.declared.Plan.the-variants.{Stop, Open, Enter, Change, Level, Step, Print, Cancel, Correct}
-use Rattle.call_plan.specs.Plan.{datePlan, listingPlan, printPlan, tradePlan, cancelOf, cancelPlan, correctionOf, correctionPlan, linePlan}
+use Rattle.call_plan.specs.Plan.{datePlan, listingPlan, printPlan, unlessStopped, tradePlan, cancelOf, cancelPlan, correctionOf, correctionPlan, linePlan}
 use Rattle.rules.specs.declared.PriceForm.{PriceForm}
 
 -- ---- a name among those of entered securities
@@ -84,8 +84,9 @@ planned st s t value whole ranges lasts rule a b d c e o u r q p v w ra la ru =
 pub trade-there : (st : Settings) (table : List ℕ) (s : Security) (t : Trade) (i : ℕ) (r : Plan) → s ≡ row table i → r ≡ tradePlan st s t → r ≡ tradePlan st (row table i) t
 trade-there st table s t i r e h = rw (← e) h
 
-pub prints : (st : Settings) (s : Security) (t : Trade) (p : TradePlan) → p ≡ printPlan st s t → Print p ≡ Print (printPlan st s t)
-prints st s t p e = ap Print e
+pub trade-planned : (st : Settings) (s : Security) (t : Trade) (p : TradePlan) (r : Plan) → p ≡ printPlan st s t → r ≡ unlessStopped s t (Print p) → r ≡ tradePlan st s t
+unfolding tradePlan
+trade-planned st s t p r e h = rw (← e) h
 
 -- ---- a cancel, an error, a correction
 
@@ -97,8 +98,9 @@ planned-cancel error st s t a b p q = rw (p, q)
 pub cancel-there : (error : Bool) (st : Settings) (table : List ℕ) (s : Security) (t : Trade) (i : ℕ) (r : Plan) → s ≡ row table i → r ≡ cancelPlan error st s t → r ≡ cancelPlan error st (row table i) t
 cancel-there error st table s t i r e h = rw (← e) h
 
-pub cancels : (error : Bool) (st : Settings) (s : Security) (t : Trade) (p : CancelPlan) → p ≡ cancelOf error st s t → Cancel p ≡ Cancel (cancelOf error st s t)
-cancels error st s t p e = ap Cancel e
+pub cancel-planned : (error : Bool) (st : Settings) (s : Security) (t : Trade) (p : CancelPlan) (r : Plan) → p ≡ cancelOf error st s t → r ≡ unlessStopped s t (Cancel p) → r ≡ cancelPlan error st s t
+unfolding cancelPlan
+cancel-planned error st s t p r e h = rw (← e) h
 
 pub planned-correction : (st : Settings) (s : Security) (c : Correction) (a : Bool) (b : PriceForm) (d : Bool) (e : Security) → a ≡ printsCorrection st s (c .original) (c .correcting) → b ≡ correctionForm st s (c .original) (c .correcting) → d ≡ correctionShows st (c .original) (c .correcting) → e ≡ afterCorrection s (c .correcting)
     → (record { place = c .security - 1; original = c .original; correcting = c .correcting; network = s .issue .network; unit = s .issue .unit; prints = a; form = b; shows = d; after = e }) ≡ correctionOf st s c

@@ -30,7 +30,7 @@ ghost use Rattle.rules.specs.Names.{sameName};
 ghost use Rattle.rules.specs.Conditions.{onNetwork};
 ghost use Rattle.rules.specs.Day.{isEntered, takenName, entered};
 ghost use Rattle.call_table.specs.Rows.{row, nameOf, rowsFrom, namesFrom};
-ghost use Rattle.call_plan.specs.Plan.{datePlan, listingPlan, printPlan, tradePlan, cancelOf, cancelPlan, correctionOf, correctionPlan, linePlan, readPlan, planOf};
+ghost use Rattle.call_plan.specs.Plan.{datePlan, listingPlan, printPlan, unlessStopped, tradePlan, cancelOf, cancelPlan, correctionOf, correctionPlan, linePlan, readPlan, planOf};
 ghost use Rattle.line_owed.specs.Owed.{OwedListing, OwedTrade, OwedCorrection, OwedLine};
 
 // What an accepted trade prints, and the security after it.
@@ -222,9 +222,9 @@ fn is_lawful(s: Security, t: Trade) -> bool
     decide_letters::on_network(s.issue.network, letters)
 }
 
-fn trade_plan(st: Settings, s: Security, t: Trade) -> Plan
-    requires { ⌜ OwedTrade t ⌝ }
-    ensures { λ r. ⌜ r ≡ tradePlan st s t ⌝ }
+// T, X, E: refusals 6, 10 and 11, then what the line asks for.
+fn unless_stopped(s: Security, t: Trade, p: Plan) -> Plan
+    ensures { λ r. ⌜ r ≡ unlessStopped s t p ⌝ }
 {
     if !decide_letters::is_entered(s) {
         return Plan::Stop(Refusal::NotEntered);
@@ -235,7 +235,14 @@ fn trade_plan(st: Settings, s: Security, t: Trade) -> Plan
     if !t.matched {
         return Plan::Stop(Refusal::Unmatched);
     }
-    Plan::Print(print_plan(st, s, t))
+    p
+}
+
+fn trade_plan(st: Settings, s: Security, t: Trade) -> Plan
+    requires { ⌜ OwedTrade t ⌝ }
+    ensures { λ r. ⌜ r ≡ tradePlan st s t ⌝ }
+{
+    unless_stopped(s, t, Plan::Print(print_plan(st, s, t)))
 }
 
 fn trade_at(st: Settings, table: &Table, t: Trade) -> Plan
@@ -267,16 +274,7 @@ fn cancel_plan(error: bool, st: Settings, s: Security, t: Trade) -> Plan
     requires { ⌜ OwedTrade t ⌝ }
     ensures { λ r. ⌜ r ≡ cancelPlan error st s t ⌝ }
 {
-    if !decide_letters::is_entered(s) {
-        return Plan::Stop(Refusal::NotEntered);
-    }
-    if !is_lawful(s, t) {
-        return Plan::Stop(Refusal::Conditions);
-    }
-    if !t.matched {
-        return Plan::Stop(Refusal::Unmatched);
-    }
-    Plan::Cancel(cancel_of(error, st, s, t))
+    unless_stopped(s, t, Plan::Cancel(cancel_of(error, st, s, t)))
 }
 
 fn cancel_at(error: bool, st: Settings, table: &Table, t: Trade) -> Plan
