@@ -24,8 +24,17 @@ after-by-requires c κs = search needs
 store-requires : tie.Need-store-requires
 store-requires c κs = search needs
 
+-- left off: the values are those that the rules ask for, nothing prints, and the security after it is stored
 returns : tie.Need-returns
-returns c = search left-off
+returns c =
+    let e = c .before .before in
+    let a = e .before in
+    let p = a .before in
+    let h = p .before in
+    let l = h .before in
+    let r = l .before in
+    let v = r .before in
+    left-off _ _ _ _ _ _ _ _ _ _ (v .in-units .ensures .0) (r .for-range .ensures) (l .for-last .ensures) (h .has-rule .ensures) (p .prints-by .ensures) (a .after-by .ensures) _ _ _ _ _ (e .if1 .taken) (c .store .ensures)
 
 -- each value that was worked out is the one that the rules ask for, and the trade prints
 print-out-requires : tie.Need-print-out-requires
