@@ -4,19 +4,19 @@ use native.Mathlib.Nat.{pow-suc, pow-le-pow-right}
 use native.Mathlib.Numerals.{add-one}
 use native.Mathlib.Omega.{arith}
 use mathlib.Core.Path.{_≡_}
-use mathlib.Core.Bool.{Bool, true, false, not}
+use mathlib.Core.Bool.{Bool, false, not}
 use mathlib.Core.List.{List}
 use lib.ListN.{length, getD, take, drop, drop-of-length-le, length-drop}
 use lib.Pow.{pow-add}
 use lib.Seq.{drop-cons, take-all}
-use lib.Dec.{leb, ltb}
+use lib.Dec.{ltb}
 use borrow.Author.Tests.{lt-leb, le-leb, eq-eqb, ne-eqb, not-false}
 use Rattle.text.specs.Pick.{pick}
 use Rattle.text.specs.Reading.{isDigit}
 use Rattle.rules.specs.declared.Number.{Number}
 use Rattle.rules.specs.declared.Number.the-variants.{Blank, Bad, Is}
-use Rattle.rules.specs.Columns.{isBlank, justified, digitsFrom, zeroAlone, numeral, numberIn, isNumber, numberOrBlank, valueOf, passes, between, daysIn, isDate}
-use Rattle.rules.specs.Line.{isPrice, previousRanged}
+use Rattle.rules.specs.Columns.{isBlank, justified, digitsFrom, zeroAlone, numeral, numberIn, between, daysIn, isDate}
+use Rattle.rules.specs.Line.{isPrice}
 
 -- ---- digits: acc is worth what stands before i, and x is the answer
 
@@ -76,90 +76,6 @@ unfolding numberIn numeral pick
 field-digits s i r e h q d =
     let a : take (length s - i) (drop i s) ≡ drop i s = take-all (length s - i) (drop i s) (rw length-drop (omega arith)) in
     rw (e, drop-cons s i 0 h, ne-eqb _ 48 q, ← drop-cons s i 0 h) (rw a at d)
-
--- ---- what stands there: x is blank, bad or a number n
-
-module _ (x : Number) where
-  module _ (h : x ≡ Blank) where
-    pub number-blank : false ≡ isNumber x
-    unfolding isNumber
-    number-blank = rw h
-
-    pub or-blank-blank : true ≡ numberOrBlank x
-    unfolding numberOrBlank
-    or-blank-blank = rw h
-
-    pub value-blank : 0 ≡ valueOf x
-    unfolding valueOf
-    value-blank = rw h
-
-    pub passes-blank : (p : ℕ → Bool) → true ≡ passes p x
-    unfolding passes
-    passes-blank p = rw h
-
-    pub previous-blank : (d : Number) (r : Bool) → r ≡ passes (λ n. leb n 8) d → r ≡ previousRanged x d
-    unfolding previousRanged
-    previous-blank d r e = rw h e
-
-    pub previous-n-blank : (n : ℕ) (y : Number) → y ≡ Is n → leb 1 n ≡ previousRanged y x
-    unfolding previousRanged
-    previous-n-blank n y e = rw (e, h)
-
-  module _ (h : x ≡ Bad) where
-    pub number-bad : false ≡ isNumber x
-    unfolding isNumber
-    number-bad = rw h
-
-    pub or-blank-bad : false ≡ numberOrBlank x
-    unfolding numberOrBlank
-    or-blank-bad = rw h
-
-    pub value-bad : 0 ≡ valueOf x
-    unfolding valueOf
-    value-bad = rw h
-
-    pub passes-bad : (p : ℕ → Bool) → true ≡ passes p x
-    unfolding passes
-    passes-bad p = rw h
-
-    pub previous-bad : (d : Number) (r : Bool) → r ≡ passes (λ n. leb n 8) d → r ≡ previousRanged x d
-    unfolding previousRanged
-    previous-bad d r e = rw h e
-
-    pub previous-n-bad : (n : ℕ) (y : Number) → y ≡ Is n → leb 1 n ≡ previousRanged y x
-    unfolding previousRanged
-    previous-n-bad n y e = rw (e, h)
-
-  module _ (n : ℕ) (h : x ≡ Is n) where
-    pub number-is : true ≡ isNumber x
-    unfolding isNumber
-    number-is = rw h
-
-    pub or-blank-is : true ≡ numberOrBlank x
-    unfolding numberOrBlank
-    or-blank-is = rw h
-
-    pub value-is : n ≡ valueOf x
-    unfolding valueOf
-    value-is = rw h
-
-    pub passes-one : leb 1 n ≡ passes (leb 1) x
-    unfolding passes
-    passes-one = rw h
-
-    pub passes-eight : leb n 8 ≡ passes (λ m. leb m 8) x
-    unfolding passes
-    passes-eight = rw h
-
-    pub previous-is : (d : ℕ) (y : Number) (r : Bool) → y ≡ Is d → r ≡ isPrice n d → r ≡ previousRanged x y
-    unfolding previousRanged
-    previous-is d y r k e = rw (h, k) e
-
-pub ruleset numbers = (number-blank, number-bad, number-is, or-blank-blank, or-blank-bad, or-blank-is, value-blank, value-bad, value-is)
-
-pub ruleset passing = (passes-blank, passes-bad, passes-one, passes-eight)
-
-pub ruleset previous = (previous-blank, previous-n-blank, previous-bad, previous-n-bad, previous-is)
 
 -- ---- prices
 

@@ -1,4 +1,4 @@
-use Rattle.line_numbers.proofs.Numbers.{passing}
+use Rattle.rules.specs.Columns.{passes}
 use borrow.Author.Needs.{needs}
 use Rattle.line_numbers.proofs.is_from_one.Statement.{statement}
 use Rattle.line_numbers.proofs.is_from_one.Tie as tie
@@ -13,13 +13,16 @@ enum-known-x : tie.Need-enum-known-x
 enum-known-x c = search needs
 
 returns : tie.Need-returns
-returns c = search passing
+unfolding passes
+returns c = cc
 
 returns-2 : tie.Need-returns-2
-returns-2 c = search passing
+unfolding passes
+returns-2 c = cc
 
 returns-3 : tie.Need-returns-3
-returns-3 c = search passing
+unfolding passes
+returns-3 c = cc
 
 pub is-from-one-spec : {M : Type 1} → statement M
 is-from-one-spec =

@@ -1,4 +1,4 @@
-use Rattle.line_numbers.proofs.Numbers.{previous}
+use Rattle.rules.specs.Line.{previousRanged}
 use borrow.Author.Needs.{needs}
 use Rattle.line_numbers.proofs.is_previous_ranged.Statement.{statement}
 use Rattle.line_numbers.proofs.is_previous_ranged.Tie as tie
@@ -31,19 +31,24 @@ is-price-requires : tie.Need-is-price-requires
 is-price-requires c κs = search needs
 
 returns : tie.Need-returns
-returns c = search previous
+unfolding previousRanged
+returns c = cc
 
 returns-2 : tie.Need-returns-2
-returns-2 c = search previous
+unfolding previousRanged
+returns-2 c = cc
 
 returns-3 : tie.Need-returns-3
-returns-3 c = search previous
+unfolding previousRanged
+returns-3 c = cc
 
 returns-4 : tie.Need-returns-4
-returns-4 c = search previous
+unfolding previousRanged
+returns-4 c = cc
 
 returns-5 : tie.Need-returns-5
-returns-5 c = search previous
+unfolding previousRanged
+returns-5 c = cc
 
 pub is-previous-ranged-spec : {M : Type 1} → statement M
 is-previous-ranged-spec =

@@ -1,4 +1,4 @@
-use Rattle.line_numbers.proofs.Numbers.{numbers}
+use Rattle.rules.specs.Columns.{valueOf}
 use borrow.Author.Needs.{needs}
 use Rattle.line_numbers.proofs.value_of.Statement.{statement}
 use Rattle.line_numbers.proofs.value_of.Tie as tie
@@ -13,13 +13,16 @@ enum-known-x : tie.Need-enum-known-x
 enum-known-x c = search needs
 
 returns : tie.Need-returns
-returns c = search numbers
+unfolding valueOf
+returns c = cc
 
 returns-2 : tie.Need-returns-2
-returns-2 c = search numbers
+unfolding valueOf
+returns-2 c = cc
 
 returns-3 : tie.Need-returns-3
-returns-3 c = search numbers
+unfolding valueOf
+returns-3 c = cc
 
 pub value-of-spec : {M : Type 1} → statement M
 value-of-spec = tie.close (tie.spec enum-told enum-told-2 enum-known-x returns returns-2 returns-3)
