@@ -2,11 +2,11 @@
 use Prim.Native.Nat.{ℕ, zero, suc, _+_, _-_, _*_, _/_, _%_, _≤_, _<_}
 use native.Mathlib.Omega.{arith}
 use mathlib.Core.Path.{_≡_, refl, sym, ap, _∙_}
-use mathlib.Core.Bool.{Bool, true, false, _&&_, not}
+use mathlib.Core.Bool.{Bool, true, false, not}
 use mathlib.Core.List.{List, [], _∷_, _++_, append-assoc}
-use lib.ListN.{length, take, drop, length-append}
-use lib.Seq.{take-append-add, take-append-le}
-use lib.Dec.{eqb, leb, ltb}
+use lib.ListN.{length, take, length-append}
+use lib.Seq.{take-append-add, take-append-le, drop-at}
+use lib.Dec.{eqb, ltb}
 use borrow.Author.Tests.{le-leb, le-ltb, ltb-true, ltb-false, eqb-true, not-true}
 use Rattle.text.specs.Bytes.{bytes}
 use Rattle.text.specs.Pick.{pick, all}
@@ -21,7 +21,7 @@ use Rattle.rules.specs.Price.{wholeText}
 use Rattle.rules.specs.Announcement.{minimumDollars, minimumText, modeText, levelText}
 use Rattle.rules.specs.declared.Mode.{Mode}
 use Rattle.rules.specs.declared.Mode.the-variants.{Normal, Dvd, Rpo, Mpv}
-use Rattle.read_announcement.specs.Announced.{Announced, mode, level, withDigit, digitsIn, minimumIn, levelIn, lengthAt, minimumBy, minimumAt, levelBy, levelAt, announcedIn, announcedLength}
+use Rattle.read_announcement.specs.Announced.{Announced, mode, level, withDigit, digitsIn, numberAt, lengthAt, lengthBy, minimumAt, levelAt, announcedIn, announcedLength}
 
 -- ---- digits
 
@@ -68,6 +68,22 @@ none-more t s j a h k = rw (take-append-le j t s k) (skipped t j a h)
 cut-behind : (k : ℕ) (t u : List ℕ) → length t ≤ k → take k (t ++ u) ≡ t ++ take (k - length t) u
 cut-behind k t u h = let e : k ≡ length t + (k - length t) = omega arith in ap (λ j. take j (t ++ u)) e ∙ take-append-add t u (k - length t)
 
+-- ---- a text of three parts: the begin, figures that are worth a, and an end without figures
+
+module _ (first figures last s : List ℕ) where
+  number-back : (k a : ℕ) → length first ≡ 29 → length figures ≤ k → k ≤ length figures + length last → ((u : List ℕ) → digitsIn 0 (figures ++ u) ≡ digitsIn a u) → all other last ≡ true
+      → numberAt k (first ++ (figures ++ (last ++ s))) ≡ a
+  unfolding numberAt pick
+  number-back k a e h l d o =
+      let m = length-append figures (last ++ s) in
+      let n = length-append last s in
+      rw (le-ltb (length (first ++ (figures ++ (last ++ s)))) (29 + k) (rw length-append (omega arith)), drop-at first (figures ++ (last ++ s)) 29 e, cut-behind k figures (last ++ s) h, d)
+      (none-more last s (k - length figures) a o (omega arith))
+
+by-back : (low high : ℕ) (text : ℕ → List ℕ) (n : ℕ) (s : List ℕ) → low ≤ n → n ≤ high → lengthBy low high text n (text n ++ s) ≡ length (text n)
+unfolding lengthBy between lengthAt pick
+by-back low high text n s h k = rw (le-leb low n h, le-leb n high k, starts-append (text n) s)
+
 -- ---- a volume delete level
 
 volume-digits : (n : ℕ) (s : List ℕ) → n < 1000000 → digitsIn 0 (fullVolume n ++ s) ≡ digitsIn n s
@@ -98,19 +114,12 @@ level-whole : (n : ℕ) (s : List ℕ) → levelText n ++ s ≡ bytes "<<<VOLUME
 unfolding levelText
 level-whole n s = simp append-assoc
 
-level-in : (n : ℕ) (s : List ℕ) → n ≤ 100000 → levelIn (levelText n ++ s) ≡ n
-unfolding levelIn all isDigit
-level-in n s h =
-    let l = volume-length n h in
-    let e = cut-behind 7 (fullVolume n) (bytes "SHRS>>" ++ s) (l .1) in
-    rw (level-whole n s, e, volume-digits n (take (7 - length (fullVolume n)) (bytes "SHRS>>" ++ s)) (omega arith)) (none-more (bytes "SHRS>>") s (7 - length (fullVolume n)) n refl (omega arith))
-
-level-long : (n : ℕ) (s : List ℕ) → n ≤ 100000 → 36 ≤ length (levelText n ++ s)
-level-long n s h = let l = volume-length n h in rw (level-whole n s, length-append) (omega (arith, length-append (fullVolume n) (bytes "SHRS>>" ++ s)))
-
 level-at : (n : ℕ) (s : List ℕ) → 5000 ≤ n → n ≤ 100000 → levelAt (levelText n ++ s) ≡ length (levelText n)
-unfolding levelAt levelBy between lengthAt pick
-level-at n s h k = rw (le-ltb (length (levelText n ++ s)) 36 (level-long n s k), level-in n s k, le-leb 5000 n h, le-leb n 100000 k, starts-append (levelText n) s)
+unfolding levelAt all isDigit
+level-at n s h k =
+    let l = volume-length n k in
+    let e : numberAt 7 (levelText n ++ s) ≡ n = rw (level-whole n s) (number-back (bytes "<<<VOLUME.DELETE.LEVEL.IS.NOW") (fullVolume n) (bytes "SHRS>>") s 7 n refl (l .1) (omega arith) (λ u. volume-digits n u (omega arith)) refl) in
+    rw e (by-back 5000 100000 levelText n s h k)
 
 level-first : (u : List ℕ) → announcedLength (bytes "<<<VOLUME.DELETE.LEVEL.IS.NOW" ++ u) ≡ levelAt (bytes "<<<VOLUME.DELETE.LEVEL.IS.NOW" ++ u)
 unfolding announcedLength announcedIn starts pick
@@ -153,20 +162,13 @@ minimum-whole : (n : ℕ) (s : List ℕ) → minimumText n ++ s ≡ bytes "<<<MI
 unfolding minimumText
 minimum-whole n s = simp append-assoc
 
-minimum-in : (n : ℕ) (s : List ℕ) → n ≤ 100 → minimumIn (minimumText n ++ s) ≡ n
-unfolding minimumIn all isDigit
-minimum-in n s h =
-    let l = dollars-length n h in
-    let e = cut-behind 4 (minimumDollars n) (bytes ">>" ++ s) (l .1) in
-    let d : digitsIn (5 * n) (take (4 - length (minimumDollars n)) (bytes ">>" ++ s)) ≡ 5 * n = none-more (bytes ">>") s (4 - length (minimumDollars n)) (5 * n) refl (omega arith) in
-    rw (minimum-whole n s, e, dollars-digits n (take (4 - length (minimumDollars n)) (bytes ">>" ++ s)), d) (omega arith)
-
-minimum-long : (n : ℕ) (s : List ℕ) → n ≤ 100 → 33 ≤ length (minimumText n ++ s)
-minimum-long n s h = let l = dollars-length n h in rw (minimum-whole n s, length-append) (omega (arith, length-append (minimumDollars n) (bytes ">>" ++ s)))
-
 minimum-at : (n : ℕ) (s : List ℕ) → 1 ≤ n → n ≤ 100 → minimumAt (minimumText n ++ s) ≡ length (minimumText n)
-unfolding minimumAt minimumBy between lengthAt pick
-minimum-at n s h k = rw (le-ltb (length (minimumText n ++ s)) 33 (minimum-long n s k), minimum-in n s k, le-leb 1 n h, le-leb n 100 k, starts-append (minimumText n) s)
+unfolding minimumAt all isDigit
+minimum-at n s h k =
+    let l = dollars-length n k in
+    let e : numberAt 4 (minimumText n ++ s) ≡ 5 * n = rw (minimum-whole n s) (number-back (bytes "<<<MIN.PRICE.CHGS.OMITTED.NOW") (minimumDollars n) (bytes ">>") s 4 (5 * n) refl (l .1) (omega arith) (dollars-digits n) refl) in
+    let f : numberAt 4 (minimumText n ++ s) / 5 ≡ n = rw e (omega arith) in
+    rw f (by-back 1 100 minimumText n s h k)
 
 minimum-first : (u : List ℕ) → announcedLength (bytes "<<<MIN.PRICE.CHGS.OMITTED.NOW" ++ u) ≡ minimumAt (bytes "<<<MIN.PRICE.CHGS.OMITTED.NOW" ++ u)
 unfolding announcedLength announcedIn starts pick
@@ -205,3 +207,11 @@ announced-most t (mode Dvd n h k e) = rw e (omega arith)
 announced-most t (mode Rpo n h k e) = rw e (omega arith)
 announced-most t (mode Mpv n h k e) = rw (e, length-append, length-append) (omega (arith, dollars-length n k .1))
 announced-most t (level n h k e) = rw (e, length-append, length-append) (omega (arith, volume-length n k .1))
+
+-- so either text fits 42 bytes
+pub minimum-fits : (n : ℕ) → 1 ≤ n → n ≤ 100 → length (minimumText n) ≤ 42
+unfolding modeText
+minimum-fits n h k = announced-most (minimumText n) (mode Mpv n h k refl)
+
+pub level-fits : (n : ℕ) → 5000 ≤ n → n ≤ 100000 → length (levelText n) ≤ 42
+level-fits n h k = announced-most (levelText n) (level n h k refl)

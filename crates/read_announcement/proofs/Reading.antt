@@ -1,19 +1,18 @@
 -- Laws of the number that is read, and of a text compared, in the form that the code's needs have. Assumes nothing.
-use Prim.Native.Nat.{ℕ, zero, suc, _+_, _-_, _*_, _/_, _^_, _≤_, _<_}
+use Prim.Native.Nat.{ℕ, _+_, _-_, _*_, _/_, _^_, _≤_, _<_}
 use native.Mathlib.Nat.{pow-suc, pow-le-pow-right}
 use native.Mathlib.Numerals.{add-one}
 use native.Mathlib.Omega.{arith}
-use mathlib.Core.Path.{_≡_, refl, sym, ap, _∙_}
-use mathlib.Core.Bool.{Bool, true, false, _&&_}
-use mathlib.Core.List.{List, [], _∷_}
+use mathlib.Core.Path.{_≡_, sym}
+use mathlib.Core.List.{List}
 use lib.ListN.{length, getD, take, drop, drop-of-length-le}
 use lib.Seq.{drop-cons, take-at}
-use lib.Dec.{leb, ltb}
 use borrow.Author.Tests.{le-leb, lt-leb, lt-ltb, le-ltb}
 use Rattle.text.specs.Pick.{pick}
 use Rattle.text.specs.Put.{put, Written}
-use Rattle.text.specs.Reading.{isDigit, starts}
-use Rattle.read_announcement.specs.Announced.{withDigit, digitsIn, minimumIn, levelIn, lengthAt, minimumBy, minimumAt, levelBy, levelAt}
+use Rattle.text.specs.Reading.{isDigit}
+use Rattle.rules.specs.Columns.{between}
+use Rattle.read_announcement.specs.Announced.{withDigit, digitsIn, numberAt, lengthAt, lengthBy}
 
 -- ---- a byte more
 
@@ -46,38 +45,42 @@ digits-small n i l h k m = omega (arith, h, pow-le-pow-right {n = 10} (omega ari
 pub digits-grow : (n i m : ℕ) → n < 10 ^ i → m ≤ 10 * n + 9 → m < 10 ^ (i + 1)
 digits-grow n i m h k = rw add-one (omega (arith, pow-suc 10 i))
 
+-- ---- the number behind the text's begin
+
+module _ (s : List ℕ) (k : ℕ) where
+  pub number-none : length s < 29 + k → 0 ≡ numberAt k s
+  unfolding numberAt pick
+  number-none h = rw (lt-ltb (length s) (29 + k) h)
+
+  pub number-is : (n : ℕ) → 29 + k ≤ length s → n ≡ digitsIn 0 (take (29 + k - 29) (drop 29 s)) → n ≡ numberAt k s
+  unfolding numberAt pick
+  number-is n h e = let d : 29 + k - 29 ≡ k = omega arith in rw (le-ltb (length s) (29 + k) h) (rw d at e)
+
 -- ---- a text that was written, compared
 
-module _ (t b a : List ℕ) (m n : ℕ) (w : Written t b a m) (e : n ≡ length t) where
+module _ (t b a : List ℕ) (n : ℕ) (w : Written t b a n) where
   pub cut-out : take n a ≡ t
   unfolding put
-  cut-out = rw (w .tape) (take-at t (drop (length t) b) n (sym e))
+  cut-out = rw (w .tape) (take-at t (drop (length t) b) n (sym (w .count-is)))
 
   pub cut-length : n ≡ length (take n a)
-  cut-length = rw cut-out e
+  cut-length = rw cut-out (w .count-is)
 
-  pub stands : (s : List ℕ) (q : Bool) → q ≡ starts (take n a) s → q ≡ true → n ≡ lengthAt t s
-  unfolding lengthAt pick
-  stands s q k y = let f : true ≡ starts t s = sym y ∙ (k ∙ ap (λ u. starts u s) cut-out) in rw (← f) e
+-- n was read, and q is worth it
+module _ (low high : ℕ) (text : ℕ → List ℕ) (q n : ℕ) (s : List ℕ) (e : n ≡ q) where
+  pub by-low : n < low → 0 ≡ lengthBy low high text q s
+  unfolding lengthBy between pick
+  by-low h = rw (← e, lt-leb low n h)
 
-  pub not-there : (s : List ℕ) (q : Bool) → q ≡ starts (take n a) s → q ≡ false → 0 ≡ lengthAt t s
-  unfolding lengthAt pick
-  not-there s q k y = let f : false ≡ starts t s = sym y ∙ (k ∙ ap (λ u. starts u s) cut-out) in rw (← f)
+  pub by-high : low ≤ n → high < n → 0 ≡ lengthBy low high text q s
+  unfolding lengthBy between pick
+  by-high h k = rw (← e, le-leb low n h, lt-leb n high k)
 
--- ---- a number behind the text's begin
+  pub by-text : (b a : List ℕ) (m r : ℕ) → low ≤ n → n ≤ high → Written (text n) b a m → r ≡ lengthAt (take m a) s → r ≡ lengthBy low high text q s
+  unfolding lengthBy between pick
+  by-text b a m r h k w d = rw (← e, le-leb low n h, le-leb n high k, ← cut-out (text n) b a m w) d
 
-pub minimum-short : (s : List ℕ) → length s < 33 → 0 ≡ minimumAt s
-unfolding minimumAt pick
-minimum-short s h = rw (lt-ltb (length s) 33 h)
+pub fifth : (n q : ℕ) → n ≡ q → n / 5 ≡ q / 5
+fifth n q e = rw e
 
-pub minimum-is : (s : List ℕ) (n r : ℕ) → 33 ≤ length s → n ≡ digitsIn 0 (take 4 (drop 29 s)) → r ≡ minimumBy (n / 5) s → r ≡ minimumAt s
-unfolding minimumAt minimumIn pick
-minimum-is s n r h e k = rw (le-ltb (length s) 33 h, ← e) k
-
-pub level-short : (s : List ℕ) → length s < 36 → 0 ≡ levelAt s
-unfolding levelAt pick
-level-short s h = rw (lt-ltb (length s) 36 h)
-
-pub level-is : (s : List ℕ) (n r : ℕ) → 36 ≤ length s → n ≡ digitsIn 0 (take 7 (drop 29 s)) → r ≡ levelBy n s → r ≡ levelAt s
-unfolding levelAt levelIn pick
-level-is s n r h e k = rw (le-ltb (length s) 36 h, ← e) k
+pub ruleset by = (by-low, by-high, by-text, fifth)

@@ -5,7 +5,7 @@ use mathlib.Core.Path.{_≡_, refl}
 use mathlib.Core.Bool.{Bool, true, false}
 use mathlib.Core.List.{List}
 use lib.ListN.{length, take}
-use lib.Dec.{leb, ltb}
+use lib.Dec.{leb}
 use borrow.Author.Tests.{leb-true}
 use Rattle.text.specs.Bytes.{bytes}
 use Rattle.text.specs.Pick.{pick}
@@ -16,7 +16,7 @@ use Rattle.rules.specs.Columns.{between}
 use Rattle.rules.specs.Announcement.{minimumText, modeText, levelText}
 use Rattle.rules.specs.declared.Mode.{Mode}
 use Rattle.rules.specs.declared.Mode.the-variants.{Normal, Dvd, Rpo, Mpv}
-use Rattle.read_announcement.specs.Announced.{Announced, mode, level, minimumIn, levelIn, lengthAt, minimumBy, minimumAt, levelBy, levelAt, announcedIn, announcedLength}
+use Rattle.read_announcement.specs.Announced.{Announced, mode, level, lengthAt, lengthBy, minimumAt, levelAt, announcedIn, announcedLength}
 
 -- a length within the text, and an announcement's where it is not 0
 pub record Stands (s : List ℕ) (r : ℕ) : Type 0 where
@@ -39,27 +39,20 @@ module _ (s : List ℕ) where
   unfolding lengthAt
   text-stands t a = chosen (starts t s) (length t) 0 (λ h. there t a h) (λ h. none)
 
-  minimum-by : (n : ℕ) → Stands s (minimumBy n s)
-  unfolding minimumBy between modeText
-  minimum-by n =
-      chosen (between 1 100 n) (lengthAt (minimumText n) s) 0
-      (λ h. text-stands (minimumText n) (mode Mpv n (leb-true 1 n (and-left (leb 1 n) (leb n 100) h)) (leb-true n 100 (and-right (leb 1 n) (leb n 100) h)) refl))
-      (λ h. none)
-
-  level-by : (n : ℕ) → Stands s (levelBy n s)
-  unfolding levelBy between
-  level-by n =
-      chosen (between 5000 100000 n) (lengthAt (levelText n) s) 0
-      (λ h. text-stands (levelText n) (level n (leb-true 5000 n (and-left (leb 5000 n) (leb n 100000) h)) (leb-true n 100000 (and-right (leb 5000 n) (leb n 100000) h)) refl))
+  by-stands : (low high : ℕ) (text : ℕ → List ℕ) → ((n : ℕ) → low ≤ n → n ≤ high → Announced (text n)) → (n : ℕ) → Stands s (lengthBy low high text n s)
+  unfolding lengthBy between
+  by-stands low high text a n =
+      chosen (between low high n) (lengthAt (text n) s) 0
+      (λ h. text-stands (text n) (a n (leb-true low n (and-left (leb low n) (leb n high) h)) (leb-true n high (and-right (leb low n) (leb n high) h))))
       (λ h. none)
 
   minimum-stands : Stands s (minimumAt s)
-  unfolding minimumAt
-  minimum-stands = chosen (ltb (length s) 33) 0 (minimumBy (minimumIn s) s) (λ h. none) (λ h. minimum-by (minimumIn s))
+  unfolding minimumAt modeText
+  minimum-stands = by-stands 1 100 minimumText (λ n h k. mode Mpv n h k refl) _
 
   level-stands : Stands s (levelAt s)
   unfolding levelAt
-  level-stands = chosen (ltb (length s) 36) 0 (levelBy (levelIn s) s) (λ h. none) (λ h. level-by (levelIn s))
+  level-stands = by-stands 5000 100000 levelText (λ n h k. level n h k refl) _
 
   mode-stands : (m : Mode) → starts (modeText m 1) s ≡ true → Stands s (length (modeText m 1))
   mode-stands m h = there (modeText m 1) (mode m 1 (omega arith) (omega arith) refl) h

@@ -27,12 +27,9 @@ unfoldable pub digitsIn : ℕ → List ℕ → ℕ
 digitsIn a [] = a
 digitsIn a (c ∷ s) = digitsIn (withDigit a c) s
 
--- dollars of at most four bytes, a volume of at most seven, behind the 29 bytes that begin either text
-unfoldable pub minimumIn : List ℕ → ℕ
-minimumIn s = digitsIn 0 (take 4 (drop 29 s)) / 5
-
-unfoldable pub levelIn : List ℕ → ℕ
-levelIn s = digitsIn 0 (take 7 (drop 29 s))
+-- behind the 29 bytes that begin either text: at most k bytes, 0 where they are fewer
+unfoldable pub numberAt : ℕ → List ℕ → ℕ
+numberAt k s = pick (ltb (length s) (29 + k)) 0 (digitsIn 0 (take k (drop 29 s)))
 
 -- ---- the length of the announcement at the front, 0 where none stands
 
@@ -40,19 +37,17 @@ levelIn s = digitsIn 0 (take 7 (drop 29 s))
 unfoldable pub lengthAt : List ℕ → List ℕ → ℕ
 lengthAt t s = pick (starts t s) (length t) 0
 
--- of the MPV level n
-unfoldable pub minimumBy : ℕ → List ℕ → ℕ
-minimumBy n s = pick (between 1 100 n) (lengthAt (minimumText n) s) 0
+-- of the text with the number n, from low to high
+unfoldable pub lengthBy : (low high : ℕ) (text : ℕ → List ℕ) (n : ℕ) → List ℕ → ℕ
+lengthBy low high text n s = pick (between low high n) (lengthAt (text n) s) 0
 
+-- of an MPV level: dollars of at most four bytes
 unfoldable pub minimumAt : List ℕ → ℕ
-minimumAt s = pick (ltb (length s) 33) 0 (minimumBy (minimumIn s) s)
+minimumAt s = lengthBy 1 100 minimumText (numberAt 4 s / 5) s
 
--- of the volume delete level n
-unfoldable pub levelBy : ℕ → List ℕ → ℕ
-levelBy n s = pick (between 5000 100000 n) (lengthAt (levelText n) s) 0
-
+-- of a volume delete level: a volume of at most seven
 unfoldable pub levelAt : List ℕ → ℕ
-levelAt s = pick (ltb (length s) 36) 0 (levelBy (levelIn s) s)
+levelAt s = lengthBy 5000 100000 levelText (numberAt 7 s) s
 
 unfoldable pub announcedIn : List ℕ → ℕ
 announcedIn s =

@@ -3,8 +3,7 @@
 ghost use mathlib.Core.Path.{_≡_};
 ghost use Prim.Native.Nat.{_+_, _*_, _≤_, _<_, _^_};
 ghost use lib.ListN.{length};
-ghost use Rattle.rules.specs.Announcement.{minimumText, levelText};
-ghost use Rattle.read_announcement.specs.Announced.{withDigit, digitsIn, lengthAt, minimumBy, minimumAt, levelBy, levelAt, announcedIn, announcedLength};
+ghost use Rattle.read_announcement.specs.Announced.{withDigit, digitsIn, numberAt, lengthAt, minimumAt, levelAt, announcedIn, announcedLength};
 
 // ---- the number that an announcement would tell
 
@@ -36,74 +35,57 @@ fn digits_in(s: &[u8]) -> u64
     n
 }
 
+// Behind the 29 bytes that begin either text: at most k bytes, 0 where they are fewer.
+fn number_at(s: &[u8], k: usize) -> u64
+    requires { ⌜ k ≤ 7 ⌝ }
+    ensures { λ r. ⌜ r ≡ numberAt k (now (s .entry)) ⌝ }
+{
+    let end = 29 + k;
+    if s.len() < end {
+        return 0;
+    }
+    digits_in(&s[29..end])
+}
+
 // ---- a text with a number, 0 where it does not stand there
 
-fn minimum_text_at(minimum: u64, s: &[u8]) -> usize
-    ensures { λ r. ⌜ r ≡ lengthAt (minimumText minimum) (now (s .entry)) ⌝ }
+fn text_at(t: &[u8], s: &[u8]) -> usize
+    ensures { λ r. ⌜ r ≡ lengthAt (now (t .entry)) (now (s .entry)) ⌝ }
 {
-    let mut buffer = [0u8; 64];
-    let n = print_announcement::minimum_length(minimum);
-    print_announcement::write_minimum(&mut buffer, minimum);
-    if name_words::begins(&buffer[..n], s) {
-        return n;
+    if name_words::begins(t, s) {
+        return t.len();
     }
     0
 }
 
-fn minimum_by(minimum: u64, s: &[u8]) -> usize
-    ensures { λ r. ⌜ r ≡ minimumBy minimum (now (s .entry)) ⌝ }
+fn minimum_at(s: &[u8]) -> usize
+    ensures { λ r. ⌜ r ≡ minimumAt (now (s .entry)) ⌝ }
 {
+    let minimum = number_at(s, 4) / 5;
     if minimum < 1 {
         return 0;
     }
     if 100 < minimum {
         return 0;
     }
-    minimum_text_at(minimum, s)
+    let mut buffer = [0u8; 42];
+    let n = print_announcement::write_minimum(&mut buffer, minimum);
+    text_at(&buffer[..n], s)
 }
 
-fn minimum_at(s: &[u8]) -> usize
-    ensures { λ r. ⌜ r ≡ minimumAt (now (s .entry)) ⌝ }
+fn level_at(s: &[u8]) -> usize
+    ensures { λ r. ⌜ r ≡ levelAt (now (s .entry)) ⌝ }
 {
-    if s.len() < 33 {
-        return 0;
-    }
-    let cents = digits_in(&s[29..33]);
-    minimum_by(cents / 5, s)
-}
-
-fn level_text_at(level: u64, s: &[u8]) -> usize
-    ensures { λ r. ⌜ r ≡ lengthAt (levelText level) (now (s .entry)) ⌝ }
-{
-    let mut buffer = [0u8; 64];
-    let n = print_announcement::level_length(level);
-    print_announcement::write_level(&mut buffer, level);
-    if name_words::begins(&buffer[..n], s) {
-        return n;
-    }
-    0
-}
-
-fn level_by(level: u64, s: &[u8]) -> usize
-    ensures { λ r. ⌜ r ≡ levelBy level (now (s .entry)) ⌝ }
-{
+    let level = number_at(s, 7);
     if level < 5000 {
         return 0;
     }
     if 100000 < level {
         return 0;
     }
-    level_text_at(level, s)
-}
-
-fn level_at(s: &[u8]) -> usize
-    ensures { λ r. ⌜ r ≡ levelAt (now (s .entry)) ⌝ }
-{
-    if s.len() < 36 {
-        return 0;
-    }
-    let shares = digits_in(&s[29..36]);
-    level_by(shares, s)
+    let mut buffer = [0u8; 42];
+    let n = print_announcement::write_level(&mut buffer, level);
+    text_at(&buffer[..n], s)
 }
 
 // ---- the announcement

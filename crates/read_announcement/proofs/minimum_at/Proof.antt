@@ -1,37 +1,50 @@
-use Rattle.read_announcement.proofs.Reading.{minimum-short, minimum-is}
+use Rattle.read_announcement.specs.Announced.{minimumAt}
+use Rattle.read_announcement.proofs.Reading.{cut-length, by}
+use Rattle.read_announcement.proofs.Back.{minimum-fits}
 use borrow.Author.Needs.{needs}
 use Rattle.read_announcement.proofs.minimum_at.Statement.{statement}
 use Rattle.read_announcement.proofs.minimum_at.Tie as tie
 
+number-at-requires : tie.Need-number-at-requires
+number-at-requires c κs = search needs
+
 returns : tie.Need-returns
-returns c = search minimum-short
-
-sub-digits-in : tie.Need-sub-digits-in
-sub-digits-in c = search needs
-
-part-digits-in-start : tie.Need-part-digits-in-start
-part-digits-in-start c = search needs
-
-part-digits-in-end : tie.Need-part-digits-in-end
-part-digits-in-end c = search needs
-
-digits-in-requires : tie.Need-digits-in-requires
-digits-in-requires c κs = search needs
-
-minimum-by-requires : tie.Need-minimum-by-requires
-minimum-by-requires c κs = search needs
+unfolding minimumAt
+returns c = search by
 
 returns-2 : tie.Need-returns-2
-returns-2 c = search minimum-is
+unfolding minimumAt
+returns-2 c = search by
+
+slice-aggregate-write-minimum : tie.Need-slice-aggregate-write-minimum
+slice-aggregate-write-minimum c = search needs
+
+write-minimum-requires : tie.Need-write-minimum-requires
+write-minimum-requires c κs = search minimum-fits
+
+array-share-prefix-buffer : tie.Need-array-share-prefix-buffer
+array-share-prefix-buffer c = search needs
+
+slice-aggregate-text-at : tie.Need-slice-aggregate-text-at
+slice-aggregate-text-at c = search cut-length
+
+text-at-requires : tie.Need-text-at-requires
+text-at-requires c κs = search needs
+
+returns-3 : tie.Need-returns-3
+unfolding minimumAt
+returns-3 c = search by
 
 pub minimum-at-spec : {M : Type 1} → statement M
 minimum-at-spec =
     tie.close
     (tie.spec
+    number-at-requires
     returns
-    sub-digits-in
-    part-digits-in-start
-    part-digits-in-end
-    digits-in-requires
-    minimum-by-requires
-    returns-2)
+    returns-2
+    slice-aggregate-write-minimum
+    write-minimum-requires
+    array-share-prefix-buffer
+    slice-aggregate-text-at
+    text-at-requires
+    returns-3)
