@@ -1,12 +1,12 @@
 -- Whatever one line can show is a normal print: its S line and its own line are accepted and print it. Assumes nothing.
-use Prim.Native.Nat.{ℕ, _-_, _^_, _≤_, _<_}
+use Prim.Native.Nat.{ℕ, _^_, _≤_, _<_}
 use native.Mathlib.Omega.{arith}
 use mathlib.Core.Path.{_≡_, refl, sym, ap, _∙_}
 use mathlib.Core.Bool.{Bool, true, false, _&&_, not}
 use mathlib.Core.List.{List, [], _∷_}
 use mathlib.Core.Option.{Option, none, some}
 use lib.Dec.{leb, ltb, eqb}
-use lib.ListN.{length, set}
+use lib.ListN.{length}
 use borrow.Author.Tests.{leb-true}
 use Rattle.text.proofs.Texts.{and-right}
 use Rattle.text.specs.Pick.{pick, opt, all, among, same, member}
@@ -23,7 +23,7 @@ use Rattle.text.specs.Bytes.{bytes}
 use Rattle.text.proofs.Parts.{all-append}
 use Rattle.rules.specs.Trade.{printsTrade, tradeFull, tradeForm, tradeShows, isNormal}
 use Rattle.rules.specs.Correction.{cancelText, correctionText, cancelOpening, errorOpening, cancelFull, cancelForm, cancelShows, printsCorrection, correctionFull, correctionForm, correctionShows}
-use Rattle.rules.specs.Line.{isPrintable, isShaped, isKind, isFormed, isRanged, lineOf, ofKind, nameColumns, isUnit, isNetwork, isMode, modeOf, modeFormed, levelFormed, levelRanged}
+use Rattle.rules.specs.Line.{isPrintable, isShaped, isKind, isFormed, isRanged, lineOf, ofKind, nameColumns, isUnit, isNetwork, isMode, modeOf, modeFormed, levelFormed, levelRanged, tradeFormed, tradeRanged, tradeOf}
 use Rattle.rules.specs.Refusal.{refuse}
 use Rattle.rules.specs.Day.{Day, cleared, isEntered, securityAt, tradeRefusal, correctionRefusal, stateRefusal, undated, refusalOf, printOf, tradePrint, cancelPrint, correctionPrint, showsTemporary, entered, afterLine}
 use Rattle.rules.specs.Shown.{conditionsOf, inFull, partOf, Fact, announced, announcedIf, traded, cancelled, erred, corrected, factOf, tradeFact, shownVolume}
@@ -31,6 +31,7 @@ use Rattle.rules.specs.NormalPrint.{ReadFact, readAnnouncement, readTrade, read
 use Rattle.rules.specs.declared.Mode.{Mode}
 use Rattle.rules.specs.declared.Mode.the-variants.{Normal, Dvd, Rpo, Mpv}
 use Rattle.rules.specs.declared.Side.{Side}
+use Rattle.rules.specs.declared.Trade.{Trade}
 use Rattle.rules.specs.declared.Line.{Line}
 use Rattle.rules.specs.declared.Line.the-variants.{Listed, Moded, Leveled, Traded, Cancelled, Erred, Corrected}
 use Rattle.rules.specs.declared.Refusal.{Refusal}
@@ -61,18 +62,6 @@ opening-minimum = refl
 
 fits : (n : ℕ) → ltb n n ≡ false
 fits n = sym (is-nlt n n (omega arith))
-
-t-printable : all isPrintable (84 ∷ []) ≡ true
-unfolding all isPrintable between
-t-printable = refl
-
-x-printable : all isPrintable (88 ∷ []) ≡ true
-unfolding all isPrintable between
-x-printable = refl
-
-e-printable : all isPrintable (69 ∷ []) ≡ true
-unfolding all isPrintable between
-e-printable = refl
 
 -- a line that nothing stops, with the room that its print takes
 accepted-line : (day : Day) (line : List ℕ) (kind : ℕ) (l : Line)
@@ -140,95 +129,40 @@ module _ (network unit : ℕ) (name : List ℕ) (h : Enterable network unit name
     unfolding tradeRefusal tradeAs entered listedAs isEntered refuse pick
     trade-passes later = rw (the-security 5000 1 network unit name, not-zero unit (unit-some unit (h .trades-in)), w .on)
 
-    traded-line : lineOf (tradeLine 84 x) ≡ Traded (tradeAs x)
-    unfolding ofKind pick
-    traded-line = line-by 84 (tradeLine 84 x) (trade-kind 84 x) ∙ ap Traded (trade-said 84 x said)
+    -- of the kind with the letter k
+    module _ (k : ℕ) (on : Trade → Line) (p : all isPrintable (k ∷ []) ≡ true) (q : isKind k ≡ true)
+        (reads : (line : List ℕ) → ofKind k line ≡ record { formed = tradeFormed line; ranged = tradeRanged line; line = on (tradeOf line) })
+        (asks : (day : Day) (name′ : List ℕ) (t : Trade) (later : Option Refusal) → stateRefusal day name′ (on t) later ≡ tradeRefusal (securityAt day (t .security)) t later) where
+      sided-line : lineOf (tradeLine k x) ≡ on (tradeAs x)
+      sided-line = rw (line-by k (tradeLine k x) (trade-kind k x), reads, trade-said k x said)
 
-    traded-accepted : refusalOf (dayWith 5000 1 network unit name) (tradeLine 84 x) (length (printOf (dayWith 5000 1 network unit name) (Traded (tradeAs x)))) ≡ none
-    unfolding ofKind pick stateRefusal isKind among tradeAs
-    traded-accepted =
-        accepted-line (dayWith 5000 1 network unit name) (tradeLine 84 x) 84 (Traded (tradeAs x))
-        (trade-shaped 84 x said t-printable) (trade-kind 84 x) refl (dated 5000 1 network unit name)
-        (formed-by 84 (tradeLine 84 x) (trade-kind 84 x) ∙ trade-formed 84 x said)
-        (ranged-by 84 (tradeLine 84 x) (trade-kind 84 x) ∙ trade-ranged 84 x said)
-        traded-line trade-passes
+      sided-accepted : refusalOf (dayWith 5000 1 network unit name) (tradeLine k x) (length (printOf (dayWith 5000 1 network unit name) (on (tradeAs x)))) ≡ none
+      unfolding tradeAs
+      sided-accepted =
+          accepted-line (dayWith 5000 1 network unit name) (tradeLine k x) k (on (tradeAs x))
+          (trade-shaped k x said p) (trade-kind k x) q (dated 5000 1 network unit name)
+          (rw (formed-by k (tradeLine k x) (trade-kind k x), reads) (trade-formed k x said))
+          (rw (ranged-by k (tradeLine k x) (trade-kind k x), reads) (trade-ranged k x said))
+          sided-line (λ later. asks _ _ (tradeAs x) later ∙ trade-passes later)
 
-    traded-print : printOf (dayWith 5000 1 network unit name) (Traded (tradeAs x)) ≡ sideText (nameText true name) network unit Full true x
-    unfolding printOf tradePrint dayWith afterLine levelDay cleared listedAs entered tradeAs printsTrade tradeFull tradeForm formBy pick tradeShows isNormal showsTemporary opt
-    traded-print = refl
-
-    traded-name : nameOf (dayWith 5000 1 network unit name) (Traded (tradeAs x)) ≡ nameText true name
-    unfolding nameOf dayWith afterLine levelDay cleared listedAs entered tradeAs showsTemporary
-    traded-name = refl
-
-    traded-fact : factOf (dayWith 5000 1 network unit name) (Traded (tradeAs x)) ≡ some (traded 1 (hasTemporary name) (units (x .price)) (conditionsOf x) (some (x .volume)))
-    unfolding factOf tradeFact shownVolume dayWith afterLine levelDay cleared listedAs entered tradeAs printsTrade isNormal showsTemporary pick
-    traded-fact = refl
+      sided-normal : (text name′ : List ℕ) (shown : Fact) (fact : ReadFact) → printOf (dayWith 5000 1 network unit name) (on (tradeAs x)) ≡ text → 1 ≤ length text → nameOf (dayWith 5000 1 network unit name) (on (tradeAs x)) ≡ name′
+          → factOf (dayWith 5000 1 network unit name) (on (tradeAs x)) ≡ some shown → readFact shown ≡ fact → NormalPrint text name′ fact
+      sided-normal text name′ shown fact c d e f g = normal 5000 1 network unit name h opening-level opening-minimum (tradeLine k x) text name′ (on (tradeAs x)) shown fact sided-accepted sided-line c d e f g
 
     -- a trade
     pub trade-normal : NormalPrint (sideText (nameText true name) network unit Full true x) (nameText true name) (readTrade (units (x .price)) (conditionsOf x) (some (x .volume)))
-    unfolding readFact
-    trade-normal = normal 5000 1 network unit name h opening-level opening-minimum (tradeLine 84 x) _ _ (Traded (tradeAs x)) _ _ traded-accepted traded-line traded-print (some-named (nameText true name) (name-some network name (h .plain) true) network unit Full true x) traded-name traded-fact refl
-
-    cancelled-line : lineOf (tradeLine 88 x) ≡ Cancelled (tradeAs x)
-    unfolding ofKind pick
-    cancelled-line = line-by 88 (tradeLine 88 x) (trade-kind 88 x) ∙ ap Cancelled (trade-said 88 x said)
-
-    cancelled-accepted : refusalOf (dayWith 5000 1 network unit name) (tradeLine 88 x) (length (printOf (dayWith 5000 1 network unit name) (Cancelled (tradeAs x)))) ≡ none
-    unfolding ofKind pick stateRefusal isKind among tradeAs
-    cancelled-accepted =
-        accepted-line (dayWith 5000 1 network unit name) (tradeLine 88 x) 88 (Cancelled (tradeAs x))
-        (trade-shaped 88 x said x-printable) (trade-kind 88 x) refl (dated 5000 1 network unit name)
-        (formed-by 88 (tradeLine 88 x) (trade-kind 88 x) ∙ trade-formed 88 x said)
-        (ranged-by 88 (tradeLine 88 x) (trade-kind 88 x) ∙ trade-ranged 88 x said)
-        cancelled-line trade-passes
-
-    cancelled-print : printOf (dayWith 5000 1 network unit name) (Cancelled (tradeAs x)) ≡ cancelText cancelOpening (nameText false name) network unit Full true x
-    unfolding printOf cancelPrint dayWith afterLine levelDay cleared listedAs entered tradeAs cancelFull cancelForm formBy pick cancelShows isNormal
-    cancelled-print = refl
-
-    cancelled-name : nameOf (dayWith 5000 1 network unit name) (Cancelled (tradeAs x)) ≡ nameText false name
-    unfolding nameOf dayWith afterLine levelDay cleared listedAs tradeAs
-    cancelled-name = refl
-
-    cancelled-fact : factOf (dayWith 5000 1 network unit name) (Cancelled (tradeAs x)) ≡ some (cancelled 1 (inFull (units (x .price)) (conditionsOf x) (x .volume)))
-    unfolding factOf partOf dayWith afterLine levelDay tradeAs isNormal pick
-    cancelled-fact = refl
+    unfolding all isPrintable between isKind among ofKind stateRefusal printOf tradePrint dayWith afterLine levelDay cleared listedAs entered tradeAs printsTrade tradeFull tradeForm formBy pick tradeShows isNormal showsTemporary opt nameOf factOf tradeFact shownVolume readFact
+    trade-normal = sided-normal 84 Traded refl refl (λ line. refl) (λ day name′ t later. refl) _ _ (traded 1 (hasTemporary name) (units (x .price)) (conditionsOf x) (some (x .volume))) _ refl (some-named (nameText true name) (name-some network name (h .plain) true) network unit Full true x) refl refl refl
 
     -- a cancel
     pub cancel-normal : NormalPrint (cancelText cancelOpening (nameText false name) network unit Full true x) (nameText false name) (readCancel (inFull (units (x .price)) (conditionsOf x) (x .volume)))
-    unfolding readFact
-    cancel-normal = normal 5000 1 network unit name h opening-level opening-minimum (tradeLine 88 x) _ _ (Cancelled (tradeAs x)) _ _ cancelled-accepted cancelled-line cancelled-print (some-cancel cancelOpening (nameText false name) network unit Full true x (omega arith)) cancelled-name cancelled-fact refl
-
-    erred-line : lineOf (tradeLine 69 x) ≡ Erred (tradeAs x)
-    unfolding ofKind pick
-    erred-line = line-by 69 (tradeLine 69 x) (trade-kind 69 x) ∙ ap Erred (trade-said 69 x said)
-
-    erred-accepted : refusalOf (dayWith 5000 1 network unit name) (tradeLine 69 x) (length (printOf (dayWith 5000 1 network unit name) (Erred (tradeAs x)))) ≡ none
-    unfolding ofKind pick stateRefusal isKind among tradeAs
-    erred-accepted =
-        accepted-line (dayWith 5000 1 network unit name) (tradeLine 69 x) 69 (Erred (tradeAs x))
-        (trade-shaped 69 x said e-printable) (trade-kind 69 x) refl (dated 5000 1 network unit name)
-        (formed-by 69 (tradeLine 69 x) (trade-kind 69 x) ∙ trade-formed 69 x said)
-        (ranged-by 69 (tradeLine 69 x) (trade-kind 69 x) ∙ trade-ranged 69 x said)
-        erred-line trade-passes
-
-    erred-print : printOf (dayWith 5000 1 network unit name) (Erred (tradeAs x)) ≡ cancelText errorOpening (nameText false name) network unit Full true x
-    unfolding printOf cancelPrint dayWith afterLine levelDay cleared listedAs entered tradeAs cancelFull cancelForm formBy pick cancelShows isNormal
-    erred-print = refl
-
-    erred-name : nameOf (dayWith 5000 1 network unit name) (Erred (tradeAs x)) ≡ nameText false name
-    unfolding nameOf dayWith afterLine levelDay cleared listedAs tradeAs
-    erred-name = refl
-
-    erred-fact : factOf (dayWith 5000 1 network unit name) (Erred (tradeAs x)) ≡ some (erred 1 (inFull (units (x .price)) (conditionsOf x) (x .volume)))
-    unfolding factOf partOf dayWith afterLine levelDay tradeAs isNormal pick
-    erred-fact = refl
+    unfolding all isPrintable between isKind among ofKind stateRefusal printOf cancelPrint dayWith afterLine levelDay cleared listedAs entered tradeAs cancelFull cancelForm formBy pick cancelShows isNormal nameOf factOf partOf readFact
+    cancel-normal = sided-normal 88 Cancelled refl refl (λ line. refl) (λ day name′ t later. refl) _ _ (cancelled 1 (inFull (units (x .price)) (conditionsOf x) (x .volume))) _ refl (some-cancel cancelOpening (nameText false name) network unit Full true x (omega arith)) refl refl refl
 
     -- an error
     pub error-normal : NormalPrint (cancelText errorOpening (nameText false name) network unit Full true x) (nameText false name) (readError (inFull (units (x .price)) (conditionsOf x) (x .volume)))
-    unfolding readFact
-    error-normal = normal 5000 1 network unit name h opening-level opening-minimum (tradeLine 69 x) _ _ (Erred (tradeAs x)) _ _ erred-accepted erred-line erred-print (some-cancel errorOpening (nameText false name) network unit Full true x (omega arith)) erred-name erred-fact refl
+    unfolding all isPrintable between isKind among ofKind stateRefusal printOf cancelPrint dayWith afterLine levelDay cleared listedAs entered tradeAs cancelFull cancelForm formBy pick cancelShows isNormal nameOf factOf partOf readFact
+    error-normal = sided-normal 69 Erred refl refl (λ line. refl) (λ day name′ t later. refl) _ _ (erred 1 (inFull (units (x .price)) (conditionsOf x) (x .volume))) _ refl (some-cancel errorOpening (nameText false name) network unit Full true x (omega arith)) refl refl refl
 
   -- ---- C
 
