@@ -32,6 +32,17 @@ module _ (r t : Bool) (e : r ≡ t) where
   pub turned : not r ≡ not t
   turned = ap not e
 
+-- x was matched, and is y: f of it, where f opens (`search (case f)` under `unfolding f`)
+module _ {A B : Type 0} where
+  pub case : (f : A → B) (x y : A) (r : B) → x ≡ y → r ≡ f y → r ≡ f x
+  case f x y r e h = rw e h
+
+  pub case-2 : {P : Type 0} (f : P → A → B) (p : P) (x y : A) (r : B) → x ≡ y → r ≡ f p y → r ≡ f p x
+  case-2 f p x y r e h = rw e h
+
+  pub case-3 : {P Q : Type 0} (f : P → Q → A → B) (p : P) (q : Q) (x y : A) (r : B) → x ≡ y → r ≡ f p q y → r ≡ f p q x
+  case-3 f p q x y r e h = rw e h
+
 -- a flag
 pub flag-no : (t : Bool) → not t ≡ true → false ≡ t
 flag-no t h = sym (not-true t h)

@@ -1,4 +1,5 @@
-use Rattle.explain_fate.proofs.Fates.{kinds}
+use Rattle.text.proofs.Told.{case-3}
+use Rattle.explain_fate.specs.Explained.{fateAt}
 use Rattle.line_owed.proofs.Owed.{owed-kinds}
 use borrow.Author.Needs.{needs}
 use Rattle.explain_fate.proofs.fate_at.Statement.{statement}
@@ -47,31 +48,40 @@ correction-fate-requires : tie.Need-correction-fate-requires
 correction-fate-requires c κs = search owed-kinds
 
 returns : tie.Need-returns
-returns c = search kinds
+unfolding fateAt
+returns c = search (case-3 fateAt)
 
 returns-2 : tie.Need-returns-2
-returns-2 c = search kinds
+unfolding fateAt
+returns-2 c = search (case-3 fateAt)
 
 returns-3 : tie.Need-returns-3
-returns-3 c = search kinds
+unfolding fateAt
+returns-3 c = search (case-3 fateAt)
 
 returns-4 : tie.Need-returns-4
-returns-4 c = search kinds
+unfolding fateAt
+returns-4 c = search (case-3 fateAt)
 
 returns-5 : tie.Need-returns-5
-returns-5 c = search kinds
+unfolding fateAt
+returns-5 c = search (case-3 fateAt)
 
 returns-6 : tie.Need-returns-6
-returns-6 c = search kinds
+unfolding fateAt
+returns-6 c = search (case-3 fateAt)
 
 returns-7 : tie.Need-returns-7
-returns-7 c = search kinds
+unfolding fateAt
+returns-7 c = search (case-3 fateAt)
 
 returns-8 : tie.Need-returns-8
-returns-8 c = search kinds
+unfolding fateAt
+returns-8 c = search (case-3 fateAt)
 
 returns-9 : tie.Need-returns-9
-returns-9 c = search kinds
+unfolding fateAt
+returns-9 c = search (case-3 fateAt)
 
 pub fate-at-spec : {M : Type 1} → statement M
 fate-at-spec =

@@ -1,4 +1,6 @@
-use Rattle.explain_fate.proofs.Fates.{stops}
+use Rattle.claim_calls.specs.Held.{stopOf}
+use Rattle.explain_fate.specs.Read.{fateIf}
+use Rattle.text.proofs.Told.{case-2}
 use borrow.Author.Needs.{needs}
 use Rattle.explain_fate.proofs.fate_of.Statement.{statement}
 use Rattle.explain_fate.proofs.fate_of.Tie as tie
@@ -31,31 +33,40 @@ enum-told-8 : tie.Need-enum-told-8
 enum-told-8 c = search needs
 
 returns : tie.Need-returns
-returns c = search stops
+unfolding stopOf fateIf
+returns c = search (case-2 (λ f p. fateIf (stopOf p) f))
 
 returns-2 : tie.Need-returns-2
-returns-2 c = search stops
+unfolding stopOf fateIf
+returns-2 c = search (case-2 (λ f p. fateIf (stopOf p) f))
 
 returns-3 : tie.Need-returns-3
-returns-3 c = search stops
+unfolding stopOf fateIf
+returns-3 c = search (case-2 (λ f p. fateIf (stopOf p) f))
 
 returns-4 : tie.Need-returns-4
-returns-4 c = search stops
+unfolding stopOf fateIf
+returns-4 c = search (case-2 (λ f p. fateIf (stopOf p) f))
 
 returns-5 : tie.Need-returns-5
-returns-5 c = search stops
+unfolding stopOf fateIf
+returns-5 c = search (case-2 (λ f p. fateIf (stopOf p) f))
 
 returns-6 : tie.Need-returns-6
-returns-6 c = search stops
+unfolding stopOf fateIf
+returns-6 c = search (case-2 (λ f p. fateIf (stopOf p) f))
 
 returns-7 : tie.Need-returns-7
-returns-7 c = search stops
+unfolding stopOf fateIf
+returns-7 c = search (case-2 (λ f p. fateIf (stopOf p) f))
 
 returns-8 : tie.Need-returns-8
-returns-8 c = search stops
+unfolding stopOf fateIf
+returns-8 c = search (case-2 (λ f p. fateIf (stopOf p) f))
 
 returns-9 : tie.Need-returns-9
-returns-9 c = search stops
+unfolding stopOf fateIf
+returns-9 c = search (case-2 (λ f p. fateIf (stopOf p) f))
 
 pub fate-of-spec : {M : Type 1} → statement M
 fate-of-spec =

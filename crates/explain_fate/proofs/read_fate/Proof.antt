@@ -1,4 +1,6 @@
-use Rattle.explain_fate.proofs.Fates.{readings}
+use Rattle.explain_fate.specs.Read.{readFate}
+use Rattle.text.proofs.Told.{case-3}
+use Rattle.explain_fate.proofs.Fates.{sound-taken}
 use borrow.Author.Needs.{needs}
 use Rattle.explain_fate.proofs.read_fate.Statement.{statement}
 use Rattle.explain_fate.proofs.read_fate.Tie as tie
@@ -10,13 +12,15 @@ enum-known-reading-2 : tie.Need-enum-known-reading-2
 enum-known-reading-2 c = search needs
 
 line-fate-requires : tie.Need-line-fate-requires
-line-fate-requires c κs = search readings
+line-fate-requires c κs = search sound-taken
 
 returns : tie.Need-returns
-returns c = search readings
+unfolding readFate
+returns c = search (case-3 readFate)
 
 returns-2 : tie.Need-returns-2
-returns-2 c = search readings
+unfolding readFate
+returns-2 c = search (case-3 readFate)
 
 pub read-fate-spec : {M : Type 1} → statement M
 read-fate-spec =

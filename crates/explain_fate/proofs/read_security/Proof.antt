@@ -1,4 +1,5 @@
-use Rattle.explain_fate.proofs.Fates.{readings}
+use Rattle.explain_fate.specs.Read.{readSecurity}
+use Rattle.text.proofs.Told.{case}
 use borrow.Author.Needs.{needs}
 use Rattle.explain_fate.proofs.read_security.Statement.{statement}
 use Rattle.explain_fate.proofs.read_security.Tie as tie
@@ -13,10 +14,12 @@ security-of-requires : tie.Need-security-of-requires
 security-of-requires c κs = search needs
 
 returns : tie.Need-returns
-returns c = search readings
+unfolding readSecurity
+returns c = search (case readSecurity)
 
 returns-2 : tie.Need-returns-2
-returns-2 c = search readings
+unfolding readSecurity
+returns-2 c = search (case readSecurity)
 
 pub read-security-spec : {M : Type 1} → statement M
 read-security-spec =

@@ -1,4 +1,5 @@
-use Rattle.explain_fate.proofs.Fates.{securities}
+use Rattle.explain_fate.specs.Explained.{securityOf}
+use Rattle.text.proofs.Told.{case}
 use borrow.Author.Needs.{needs}
 use Rattle.explain_fate.proofs.security_of.Statement.{statement}
 use Rattle.explain_fate.proofs.security_of.Tie as tie
@@ -31,31 +32,40 @@ enum-known-l-5 : tie.Need-enum-known-l-5
 enum-known-l-5 c = search needs
 
 returns : tie.Need-returns
-returns c = search securities
+unfolding securityOf
+returns c = search (case securityOf)
 
 returns-2 : tie.Need-returns-2
-returns-2 c = search securities
+unfolding securityOf
+returns-2 c = search (case securityOf)
 
 returns-3 : tie.Need-returns-3
-returns-3 c = search securities
+unfolding securityOf
+returns-3 c = search (case securityOf)
 
 returns-4 : tie.Need-returns-4
-returns-4 c = search securities
+unfolding securityOf
+returns-4 c = search (case securityOf)
 
 returns-5 : tie.Need-returns-5
-returns-5 c = search securities
+unfolding securityOf
+returns-5 c = search (case securityOf)
 
 returns-6 : tie.Need-returns-6
-returns-6 c = search securities
+unfolding securityOf
+returns-6 c = search (case securityOf)
 
 returns-7 : tie.Need-returns-7
-returns-7 c = search securities
+unfolding securityOf
+returns-7 c = search (case securityOf)
 
 returns-8 : tie.Need-returns-8
-returns-8 c = search securities
+unfolding securityOf
+returns-8 c = search (case securityOf)
 
 returns-9 : tie.Need-returns-9
-returns-9 c = search securities
+unfolding securityOf
+returns-9 c = search (case securityOf)
 
 pub security-of-spec : {M : Type 1} → statement M
 security-of-spec =

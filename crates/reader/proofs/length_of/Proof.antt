@@ -1,4 +1,5 @@
-use Rattle.reader.proofs.Tells.{lengths}
+use Rattle.text.proofs.Told.{case}
+use Rattle.reader.specs.Told.{lengthOf}
 use borrow.Author.Needs.{needs}
 use Rattle.reader.proofs.length_of.Statement.{statement}
 use Rattle.reader.proofs.length_of.Tie as tie
@@ -22,22 +23,28 @@ enum-known-r-6 : tie.Need-enum-known-r-6
 enum-known-r-6 c = search needs
 
 returns : tie.Need-returns
-returns c = search lengths
+unfolding lengthOf
+returns c = search (case lengthOf)
 
 returns-2 : tie.Need-returns-2
-returns-2 c = search lengths
+unfolding lengthOf
+returns-2 c = search (case lengthOf)
 
 returns-3 : tie.Need-returns-3
-returns-3 c = search lengths
+unfolding lengthOf
+returns-3 c = search (case lengthOf)
 
 returns-4 : tie.Need-returns-4
-returns-4 c = search lengths
+unfolding lengthOf
+returns-4 c = search (case lengthOf)
 
 returns-5 : tie.Need-returns-5
-returns-5 c = search lengths
+unfolding lengthOf
+returns-5 c = search (case lengthOf)
 
 returns-6 : tie.Need-returns-6
-returns-6 c = search lengths
+unfolding lengthOf
+returns-6 c = search (case lengthOf)
 
 pub length-of-spec : {M : Type 1} → statement M
 length-of-spec =

@@ -1,4 +1,5 @@
-use Rattle.reader.proofs.Tells.{froms}
+use Rattle.text.proofs.Told.{case}
+use Rattle.reader.specs.Told.{nameFrom}
 use borrow.Author.Needs.{needs}
 use Rattle.reader.proofs.name_from.Statement.{statement}
 use Rattle.reader.proofs.name_from.Tie as tie
@@ -22,22 +23,28 @@ enum-known-r-6 : tie.Need-enum-known-r-6
 enum-known-r-6 c = search needs
 
 returns : tie.Need-returns
-returns c = search froms
+unfolding nameFrom
+returns c = search (case nameFrom)
 
 returns-2 : tie.Need-returns-2
-returns-2 c = search froms
+unfolding nameFrom
+returns-2 c = search (case nameFrom)
 
 returns-3 : tie.Need-returns-3
-returns-3 c = search froms
+unfolding nameFrom
+returns-3 c = search (case nameFrom)
 
 returns-4 : tie.Need-returns-4
-returns-4 c = search froms
+unfolding nameFrom
+returns-4 c = search (case nameFrom)
 
 returns-5 : tie.Need-returns-5
-returns-5 c = search froms
+unfolding nameFrom
+returns-5 c = search (case nameFrom)
 
 returns-6 : tie.Need-returns-6
-returns-6 c = search froms
+unfolding nameFrom
+returns-6 c = search (case nameFrom)
 
 pub name-from-spec : {M : Type 1} → statement M
 name-from-spec =

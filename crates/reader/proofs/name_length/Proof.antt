@@ -1,4 +1,5 @@
-use Rattle.reader.proofs.Tells.{names}
+use Rattle.text.proofs.Told.{case}
+use Rattle.reader.specs.Told.{nameLength}
 use borrow.Author.Needs.{needs}
 use Rattle.reader.proofs.name_length.Statement.{statement}
 use Rattle.reader.proofs.name_length.Tie as tie
@@ -34,22 +35,28 @@ enum-known-r-6 : tie.Need-enum-known-r-6
 enum-known-r-6 c = search needs
 
 returns : tie.Need-returns
-returns c = search names
+unfolding nameLength
+returns c = search (case nameLength)
 
 returns-2 : tie.Need-returns-2
-returns-2 c = search names
+unfolding nameLength
+returns-2 c = search (case nameLength)
 
 returns-3 : tie.Need-returns-3
-returns-3 c = search names
+unfolding nameLength
+returns-3 c = search (case nameLength)
 
 returns-4 : tie.Need-returns-4
-returns-4 c = search names
+unfolding nameLength
+returns-4 c = search (case nameLength)
 
 returns-5 : tie.Need-returns-5
-returns-5 c = search names
+unfolding nameLength
+returns-5 c = search (case nameLength)
 
 returns-6 : tie.Need-returns-6
-returns-6 c = search names
+unfolding nameLength
+returns-6 c = search (case nameLength)
 
 pub name-length-spec : {M : Type 1} → statement M
 name-length-spec =
