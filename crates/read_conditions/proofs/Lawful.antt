@@ -1,10 +1,10 @@
 -- The letters that a tail takes stay lawful, and its networks explain them. Assumes nothing.
-use Prim.Native.Nat.{ℕ, suc, _+_, _-_, _≤_, _<_}
+use Prim.Native.Nat.{ℕ, _+_, _≤_, _<_}
 use native.Mathlib.Omega.{arith}
 use mathlib.Core.Path.{_≡_, refl, sym, ap, _∙_}
-use mathlib.Core.Bool.{Bool, true, false, _&&_, _||_, not}
-use mathlib.Core.List.{List, []}
-use lib.ListN.{length, drop}
+use mathlib.Core.Bool.{Bool, true, false, _&&_, not}
+use mathlib.Core.List.{List}
+use lib.ListN.{drop}
 use lib.Dec.{eqb, ltb}
 use borrow.Author.Tests.{eqb-false, ltb-true, not-true}
 use Rattle.text.specs.Bytes.{bytes}
@@ -12,11 +12,9 @@ use Rattle.text.specs.Pick.{pick}
 use Rattle.text.specs.Reading.{starts}
 use Rattle.text.proofs.Texts.{and-left, and-right}
 use Rattle.rules.specs.declared.Letters.{Letters}
-use Rattle.rules.specs.declared.Price.{Price}
 use Rattle.rules.specs.declared.Side.{Side}
 use Rattle.print_price.specs.Sound.{Sound}
 use Rattle.read_price.specs.declared.Digits.{Digits}
-use Rattle.read_price.specs.declared.PriceRead.{PriceRead}
 use Rattle.read_price.specs.declared.PriceAnswer.{PriceAnswer}
 use Rattle.read_price.specs.declared.PriceAnswer.the-variants.{Priced, NoPrice}
 use Rattle.read_price.specs.Digits.{digitsAt}
@@ -24,7 +22,7 @@ use Rattle.read_price.proofs.Bounds.{digits-below}
 use Rattle.read_price.proofs.Text.{digits-some, price-sound, price-some}
 use Rattle.read_conditions.specs.declared.Taken.{Taken}
 use Rattle.read_conditions.specs.Tail.{plusCash, plusAverage, plusStopped, plusSeller, plusRule, plusPrevious, sideWith, further, takesCash, cashAt, takesAverage, averageAt, takesStopped, stoppedAt, sellerDays, sellerBy, sellerAt, takesRule, ruleAt, previousIn, previousBy, previousAt, afterPriceAt, atEndAt, tailAt}
-use Rattle.read_conditions.proofs.Steps.{PreviousFound, previous-found}
+use Rattle.read_conditions.proofs.Steps.{previous-found}
 use Rattle.read_conditions.proofs.Standing.{Bare, zero-no, cash-keeps, average-keeps, stopped-keeps, seller-keeps, rule-keeps}
 
 unfoldable pub one : Bool → ℕ
@@ -77,90 +75,37 @@ unfolding pick
 lawful-step true y st h l = h refl
 lawful-step false y st h l = l
 
-module _ (x : Letters) where
-  count-cash : x .k ≡ false → letterCount x + 1 ≡ letterCount (plusCash x)
-  unfolding letterCount plusCash one
-  count-cash e = omega (arith, ap one e)
+-- one letter more: as many, and what the others say of it
+module _ (st : Taken) (l : Lawful st) where
+  few : (t : Bool) → (ltb (st .count) 4 && t) ≡ true → st .count < 4
+  few t h = ltb-true (st .count) 4 (and-left (ltb (st .count) 4) t h)
 
-  count-average : x .b ≡ false → letterCount x + 1 ≡ letterCount (plusAverage x)
-  unfolding letterCount plusAverage one
-  count-average e = omega (arith, ap one e)
-
-  count-stopped : x .t ≡ false → letterCount x + 1 ≡ letterCount (plusStopped x)
-  unfolding letterCount plusStopped one
-  count-stopped e = omega (arith, ap one e)
-
-  count-seller : x .r ≡ false → letterCount x + 1 ≡ letterCount (plusSeller x)
-  unfolding letterCount plusSeller one
-  count-seller e = omega (arith, ap one e)
-
-  count-rule : x .j ≡ false → letterCount x + 1 ≡ letterCount (plusRule x)
-  unfolding letterCount plusRule one
-  count-rule e = omega (arith, ap one e)
-
-  count-previous : x .g ≡ false → letterCount x + 1 ≡ letterCount (plusPrevious x)
-  unfolding letterCount plusPrevious one
-  count-previous e = omega (arith, ap one e)
-
-one-more : (a b c : ℕ) → a ≡ b → b + 1 ≡ c → a + 1 ≡ c
-one-more a b c e f = omega arith
+  more-lawful : (x : Side) (n : ℕ) (a b : Bool) → st .count < 4 → letterCount (st .side .letters) + 1 ≡ letterCount (x .letters)
+      → (x .letters .m && x .letters .k) ≡ false → (x .letters .m && x .letters .r) ≡ false → (x .letters .k && x .letters .r) ≡ false
+      → (a ≡ true → x .letters .g ≡ false) → (b ≡ true → x .letters .j ≡ false)
+      → (x .letters .r ≡ true → (1 ≤ x .days) × (x .days < 1000)) → (x .letters .g ≡ true → Sound (x .previous) × (1 ≤ x .previous .n)) → Lawful (further st x n a b)
+  unfolding further
+  more-lawful x n a b h e m-k m-r k-r on-a on-b days previous =
+      record { counted = omega (arith, l .counted); four = omega arith; m-k = m-k; m-r = m-r; k-r = k-r; on-a = on-a; on-b = on-b; days = days; previous = previous }
 
 module _ (s : List ℕ) (st : Taken) (l : Lawful st) where
   cash-lawful : st .side .letters .k ≡ false → st .side .letters .r ≡ false → Lawful (cashAt s st)
-  unfolding cashAt takesCash further sideWith plusCash
-  cash-lawful k r = lawful-step (takesCash s st) _ st (λ h. record {
-    counted = one-more (st .count) (letterCount (st .side .letters)) _ (l .counted) (count-cash (st .side .letters) k);
-    four = omega (arith, ltb-true (st .count) 4 (and-left (ltb (st .count) 4) _ h));
-    m-k = and-no (st .side .letters .m) true (not-true (st .side .letters .m) (and-left (not (st .side .letters .m)) _ (and-right (ltb (st .count) 4) _ h)));
-    m-r = l .m-r;
-    k-r = r;
-    on-a = l .on-a;
-    on-b = l .on-b;
-    days = l .days;
-    previous = l .previous;
-  }) l
+  unfolding cashAt takesCash sideWith plusCash letterCount one
+  cash-lawful k r = lawful-step (takesCash s st) _ st (λ h.
+      let m = not-true (st .side .letters .m) (and-left (not (st .side .letters .m)) _ (and-right (ltb (st .count) 4) _ h)) in
+      more-lawful st l _ 2 (st .a) (st .b) (few st l _ h) (omega (arith, ap one k)) (and-no (st .side .letters .m) true m) (l .m-r) r (l .on-a) (l .on-b) (l .days) (l .previous)) l
 
   average-lawful : st .side .letters .b ≡ false → Lawful (averageAt s st)
-  unfolding averageAt takesAverage further sideWith plusAverage
-  average-lawful k = lawful-step (takesAverage s st) _ st (λ h. record {
-    counted = one-more (st .count) (letterCount (st .side .letters)) _ (l .counted) (count-average (st .side .letters) k);
-    four = omega (arith, ltb-true (st .count) 4 (and-left (ltb (st .count) 4) _ h));
-    m-k = l .m-k;
-    m-r = l .m-r;
-    k-r = l .k-r;
-    on-a = l .on-a;
-    on-b = l .on-b;
-    days = l .days;
-    previous = l .previous;
-  }) l
+  unfolding averageAt takesAverage sideWith plusAverage letterCount one
+  average-lawful k = lawful-step (takesAverage s st) _ st (λ h. more-lawful st l _ 2 (st .a) (st .b) (few st l _ h) (omega (arith, ap one k)) (l .m-k) (l .m-r) (l .k-r) (l .on-a) (l .on-b) (l .days) (l .previous)) l
 
   stopped-lawful : st .side .letters .t ≡ false → Lawful (stoppedAt s st)
-  unfolding stoppedAt takesStopped further sideWith plusStopped
-  stopped-lawful k = lawful-step (takesStopped s st) _ st (λ h. record {
-    counted = one-more (st .count) (letterCount (st .side .letters)) _ (l .counted) (count-stopped (st .side .letters) k);
-    four = omega (arith, ltb-true (st .count) 4 (and-left (ltb (st .count) 4) _ h));
-    m-k = l .m-k;
-    m-r = l .m-r;
-    k-r = l .k-r;
-    on-a = l .on-a;
-    on-b = l .on-b;
-    days = l .days;
-    previous = l .previous;
-  }) l
+  unfolding stoppedAt takesStopped sideWith plusStopped letterCount one
+  stopped-lawful k = lawful-step (takesStopped s st) _ st (λ h. more-lawful st l _ 1 (st .a) (st .b) (few st l _ h) (omega (arith, ap one k)) (l .m-k) (l .m-r) (l .k-r) (l .on-a) (l .on-b) (l .days) (l .previous)) l
 
   rule-lawful : st .side .letters .j ≡ false → Lawful (ruleAt s st)
-  unfolding ruleAt takesRule further sideWith plusRule
-  rule-lawful k = lawful-step (takesRule s st) _ st (λ h. record {
-    counted = one-more (st .count) (letterCount (st .side .letters)) _ (l .counted) (count-rule (st .side .letters) k);
-    four = omega (arith, ltb-true (st .count) 4 (and-left (ltb (st .count) 4) _ h));
-    m-k = l .m-k;
-    m-r = l .m-r;
-    k-r = l .k-r;
-    on-a = l .on-a;
-    on-b = λ q. absurd (never false refl q);
-    days = l .days;
-    previous = l .previous;
-  }) l
+  unfolding ruleAt takesRule sideWith plusRule letterCount one
+  rule-lawful k = lawful-step (takesRule s st) _ st (λ h. more-lawful st l _ 7 (st .a) false (few st l _ h) (omega (arith, ap one k)) (l .m-k) (l .m-r) (l .k-r) (l .on-a) (λ q. absurd (never false refl q)) (l .days) (l .previous)) l
 
 -- ---- seller: the days are from 1 to 999
 
@@ -177,7 +122,7 @@ seller-days s h = go (starts (bytes "SELLER") s) (starts (bytes "0") (drop 6 s))
 
 module _ (s : List ℕ) (st : Taken) (l : Lawful st) where
   by-seller-lawful : st .count < 4 → st .side .letters .m ≡ false → st .side .letters .k ≡ false → st .side .letters .r ≡ false → (d : Digits) → d ≡ sellerDays (drop (st .used) s) → Lawful (sellerBy st d)
-  unfolding sellerBy further sideWith plusSeller pick
+  unfolding sellerBy sideWith plusSeller letterCount one pick
   by-seller-lawful h m k r d e = go (eqb (d .count) 0) refl
     where
       go : (b : Bool) → eqb (d .count) 0 ≡ b → Lawful (pick b st (further st (sideWith (st .side) (plusSeller (st .side .letters)) (d .value) (st .side .previous)) (6 + d .count) (st .a) (st .b)))
@@ -185,44 +130,24 @@ module _ (s : List ℕ) (st : Taken) (l : Lawful st) where
       go false q =
           let n : 1 ≤ d .count = omega (arith, eqb-false (d .count) 0 q) in
           let y : (1 ≤ d .value) × (d .value < 1000) = rw e (seller-days (drop (st .used) s) (rw e at n)) in
-          record {
-            counted = one-more (st .count) (letterCount (st .side .letters)) _ (l .counted) (count-seller (st .side .letters) r);
-            four = omega arith;
-            m-k = l .m-k;
-            m-r = and-no (st .side .letters .m) true m;
-            k-r = and-no (st .side .letters .k) true k;
-            on-a = l .on-a;
-            on-b = l .on-b;
-            days = λ z. y;
-            previous = l .previous;
-          }
+          more-lawful st l _ (6 + d .count) (st .a) (st .b) h (omega (arith, ap one r)) (l .m-k) (and-no (st .side .letters .m) true m) (and-no (st .side .letters .k) true k) (l .on-a) (l .on-b) (λ z. y) (l .previous)
 
   seller-lawful : st .side .letters .r ≡ false → Lawful (sellerAt s st)
   unfolding sellerAt
   seller-lawful r = lawful-step (ltb (st .count) 4 && (not (st .side .letters .m) && not (st .side .letters .k))) _ st (λ h.
       let g = and-right (ltb (st .count) 4) _ h in
-      by-seller-lawful (ltb-true (st .count) 4 (and-left (ltb (st .count) 4) _ h)) (not-true (st .side .letters .m) (and-left (not (st .side .letters .m)) _ g)) (not-true (st .side .letters .k) (and-right (not (st .side .letters .m)) _ g)) r (sellerDays (drop (st .used) s)) refl) l
+      by-seller-lawful (few st l _ h) (not-true (st .side .letters .m) (and-left (not (st .side .letters .m)) _ g)) (not-true (st .side .letters .k) (and-right (not (st .side .letters .m)) _ g)) r (sellerDays (drop (st .used) s)) refl) l
 
   by-previous-lawful : st .count < 4 → st .side .letters .g ≡ false → (x : PriceAnswer) → previousIn (drop (st .used) s) ≡ x → Lawful (previousBy st x)
-  unfolding previousBy further sideWith plusPrevious
+  unfolding previousBy sideWith plusPrevious letterCount one
   by-previous-lawful h g NoPrice e = l
   by-previous-lawful h g (Priced p) e =
       let f = previous-found (drop (st .used) s) p e .price in
-      record {
-        counted = one-more (st .count) (letterCount (st .side .letters)) _ (l .counted) (count-previous (st .side .letters) g);
-        four = omega arith;
-        m-k = l .m-k;
-        m-r = l .m-r;
-        k-r = l .k-r;
-        on-a = λ q. absurd (never false refl q);
-        on-b = l .on-b;
-        days = l .days;
-        previous = λ z. (price-sound _ p f, price-some _ p f);
-      }
+      more-lawful st l _ (13 + p .used) false (st .b) h (omega (arith, ap one g)) (l .m-k) (l .m-r) (l .k-r) (λ q. absurd (never false refl q)) (l .on-b) (l .days) (λ z. (price-sound _ p f, price-some _ p f))
 
   last-lawful : st .side .letters .g ≡ false → Lawful (previousAt s st)
   unfolding previousAt
-  last-lawful g = lawful-step (ltb (st .count) 4 && st .b) _ st (λ h. by-previous-lawful (ltb-true (st .count) 4 (and-left (ltb (st .count) 4) _ h)) g (previousIn (drop (st .used) s)) refl) l
+  last-lawful g = lawful-step (ltb (st .count) 4 && st .b) _ st (λ h. by-previous-lawful (few st l _ h) g (previousIn (drop (st .used) s)) refl) l
 
 -- THE LETTERS STAY LAWFUL
 module _ (s : List ℕ) (st : Taken) (o : Bare (st .side .letters)) (l : Lawful st) where
