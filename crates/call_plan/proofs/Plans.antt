@@ -1,9 +1,9 @@
 -- Laws of plans, in the form of the code's needs. Assumes nothing.
-use Prim.Native.Nat.{ℕ, zero, suc, _+_, _-_, _*_, _≤_, _<_}
+use Prim.Native.Nat.{ℕ, suc, _+_, _-_, _*_, _≤_, _<_}
 use native.Mathlib.Omega.{arith}
-use mathlib.Core.Path.{_≡_, refl, sym, ap, _∙_}
-use mathlib.Core.Bool.{Bool, true, false, _&&_, _||_, not}
-use mathlib.Core.List.{List, [], _∷_}
+use mathlib.Core.Path.{_≡_, sym, ap, _∙_}
+use mathlib.Core.Bool.{Bool, true, false, _&&_, not}
+use mathlib.Core.List.{List}
 use lib.ListN.{take, drop}
 use borrow.Author.Tests.{not-true, not-false}
 use Rattle.rules.specs.Names.{sameName}
@@ -15,11 +15,9 @@ use Rattle.decide_trade.proofs.Value.{side-prints, side-form, side-shows, side-
 use Rattle.rules.specs.Correction.{printsCorrection, correctionForm, correctionShows, cancelForm, cancelShows, afterCorrection}
 use Rattle.text.specs.Pick.{pick}
 use Rattle.rules.specs.Day.{isEntered, showsTemporary, entered, takenName}
-use Rattle.rules.specs.declared.Mode.{Mode}
 use Rattle.rules.specs.declared.Listing.{Listing}
 use Rattle.rules.specs.declared.Correction.{Correction}
 use Rattle.rules.specs.declared.Line.{Line}
-use Rattle.rules.specs.declared.Line.the-variants.{Dated, Listed, Moded, Leveled, Stepped, Traded, Cancelled, Erred, Corrected}
 use Rattle.rules.specs.declared.Refusal.the-variants.{InUse, Name, SameName}
 use Rattle.rules.specs.declared.Trade.{Trade}
 use Rattle.rules.specs.declared.Settings.{Settings}
@@ -29,8 +27,8 @@ use Rattle.call_plan.specs.declared.TradePlan.{TradePlan}
 use Rattle.call_plan.specs.declared.CancelPlan.{CancelPlan}
 use Rattle.call_plan.specs.declared.CorrectionPlan.{CorrectionPlan}
 use Rattle.call_plan.specs.declared.Plan.{Plan}
-use Rattle.call_plan.specs.declared.Plan.the-variants.{Stop, Open, Enter, Change, Level, Step, Print, Cancel, Correct}
-use Rattle.call_plan.specs.Plan.{datePlan, listingPlan, printPlan, unlessStopped, tradePlan, cancelOf, cancelPlan, correctionOf, correctionPlan, linePlan}
+use Rattle.call_plan.specs.declared.Plan.the-variants.{Stop, Enter, Print, Cancel, Correct}
+use Rattle.call_plan.specs.Plan.{listingPlan, printPlan, unlessStopped, isLawful, areLawful, tradePlan, cancelOf, cancelPlan, correctionOf, correctionPlan, linePlan}
 use Rattle.rules.specs.declared.PriceForm.{PriceForm}
 
 -- ---- a name among those of entered securities
@@ -84,9 +82,9 @@ planned st s t value whole ranges lasts rule a b d c e o u r q p v w ra la ru =
 pub trade-there : (st : Settings) (table : List ℕ) (s : Security) (t : Trade) (i : ℕ) (r : Plan) → s ≡ row table i → r ≡ tradePlan st s t → r ≡ tradePlan st (row table i) t
 trade-there st table s t i r e h = rw (← e) h
 
-pub trade-planned : (st : Settings) (s : Security) (t : Trade) (p : TradePlan) (r : Plan) → p ≡ printPlan st s t → r ≡ unlessStopped s t (Print p) → r ≡ tradePlan st s t
+pub trade-planned : (st : Settings) (s : Security) (t : Trade) (b : Bool) (p : TradePlan) (r : Plan) → b ≡ isLawful s t → p ≡ printPlan st s t → r ≡ unlessStopped s b (t .matched) (Print p) → r ≡ tradePlan st s t
 unfolding tradePlan
-trade-planned st s t p r e h = rw (← e) h
+trade-planned st s t b p r d e h = rw (← d, ← e) h
 
 -- ---- a cancel, an error, a correction
 
@@ -98,9 +96,9 @@ planned-cancel error st s t a b p q = rw (p, q)
 pub cancel-there : (error : Bool) (st : Settings) (table : List ℕ) (s : Security) (t : Trade) (i : ℕ) (r : Plan) → s ≡ row table i → r ≡ cancelPlan error st s t → r ≡ cancelPlan error st (row table i) t
 cancel-there error st table s t i r e h = rw (← e) h
 
-pub cancel-planned : (error : Bool) (st : Settings) (s : Security) (t : Trade) (p : CancelPlan) (r : Plan) → p ≡ cancelOf error st s t → r ≡ unlessStopped s t (Cancel p) → r ≡ cancelPlan error st s t
+pub cancel-planned : (error : Bool) (st : Settings) (s : Security) (t : Trade) (b : Bool) (p : CancelPlan) (r : Plan) → b ≡ isLawful s t → p ≡ cancelOf error st s t → r ≡ unlessStopped s b (t .matched) (Cancel p) → r ≡ cancelPlan error st s t
 unfolding cancelPlan
-cancel-planned error st s t p r e h = rw (← e) h
+cancel-planned error st s t b p r d e h = rw (← d, ← e) h
 
 pub planned-correction : (st : Settings) (s : Security) (c : Correction) (a : Bool) (b : PriceForm) (d : Bool) (e : Security) → a ≡ printsCorrection st s (c .original) (c .correcting) → b ≡ correctionForm st s (c .original) (c .correcting) → d ≡ correctionShows st (c .original) (c .correcting) → e ≡ afterCorrection s (c .correcting)
     → (record { place = c .security - 1; original = c .original; correcting = c .correcting; network = s .issue .network; unit = s .issue .unit; prints = a; form = b; shows = d; after = e }) ≡ correctionOf st s c
@@ -110,8 +108,9 @@ planned-correction st s c a b d e p q r u = rw (p, q, r, u)
 pub correction-there : (st : Settings) (table : List ℕ) (s : Security) (c : Correction) (i : ℕ) (r : Plan) → s ≡ row table i → r ≡ correctionPlan st s c → r ≡ correctionPlan st (row table i) c
 correction-there st table s c i r e h = rw (← e) h
 
-pub corrects : (st : Settings) (s : Security) (c : Correction) (p : CorrectionPlan) → p ≡ correctionOf st s c → Correct p ≡ Correct (correctionOf st s c)
-corrects st s c p e = ap Correct e
+pub correction-planned : (st : Settings) (s : Security) (c : Correction) (b : Bool) (p : CorrectionPlan) (r : Plan) → b ≡ areLawful s c → p ≡ correctionOf st s c → r ≡ unlessStopped s b (c .matched) (Correct p) → r ≡ correctionPlan st s c
+unfolding correctionPlan
+correction-planned st s c b p r d e h = rw (← d, ← e) h
 
 -- ---- an S line
 
@@ -132,44 +131,7 @@ module _ (table names name : List ℕ) (l : Listing) (s : Security) (r : Bool) (
   unfolding listingPlan pick
   enters q e h k u v w = rw (← loaded, ← answer, h, k, ← u, v, w)
 
--- ---- each kind
+-- ---- by the kind k of the line
 
-module _ (st : Settings) (table names name : List ℕ) (l : Line) (x : Plan) where
-  pub line-dated : (n : ℕ) → l ≡ Dated n → x ≡ datePlan st n → x ≡ linePlan st table names name l
-  unfolding linePlan
-  line-dated n e h = rw e h
-
-  pub line-listed : (n : Listing) → l ≡ Listed n → x ≡ listingPlan table names name n → x ≡ linePlan st table names name l
-  unfolding linePlan
-  line-listed n e h = rw e h
-
-  pub line-cancelled : (t : Trade) → l ≡ Cancelled t → x ≡ cancelPlan false st (row table (t .security - 1)) t → x ≡ linePlan st table names name l
-  unfolding linePlan
-  line-cancelled t e h = rw e h
-
-  pub line-erred : (t : Trade) → l ≡ Erred t → x ≡ cancelPlan true st (row table (t .security - 1)) t → x ≡ linePlan st table names name l
-  unfolding linePlan
-  line-erred t e h = rw e h
-
-  pub line-corrected : (c : Correction) → l ≡ Corrected c → x ≡ correctionPlan st (row table (c .security - 1)) c → x ≡ linePlan st table names name l
-  unfolding linePlan
-  line-corrected c e h = rw e h
-
-  pub line-traded : (t : Trade) → l ≡ Traded t → x ≡ tradePlan st (row table (t .security - 1)) t → x ≡ linePlan st table names name l
-  unfolding linePlan
-  line-traded t e h = rw e h
-
-module _ (st : Settings) (table names name : List ℕ) (l : Line) where
-  pub line-moded : (m : Mode) → l ≡ Moded m → Change m ≡ linePlan st table names name l
-  unfolding linePlan
-  line-moded m e = rw e
-
-  pub line-leveled : (n : ℕ) → l ≡ Leveled n → Level n ≡ linePlan st table names name l
-  unfolding linePlan
-  line-leveled n e = rw e
-
-  pub line-stepped : (n : ℕ) → l ≡ Stepped n → Step n ≡ linePlan st table names name l
-  unfolding linePlan
-  line-stepped n e = rw e
-
-pub ruleset kinds = (line-dated, line-listed, line-traded, line-moded, line-leveled, line-stepped, line-cancelled, line-erred, line-corrected)
+pub line-case : (st : Settings) (table names name : List ℕ) (l k : Line) (x : Plan) → l ≡ k → x ≡ linePlan st table names name k → x ≡ linePlan st table names name l
+line-case st table names name l k x e h = rw e h

@@ -55,15 +55,23 @@ printPlan st s t = record {
   after = afterTrade st s (t .market) (t .side);
 }
 
--- T, X, E: refusals 6, 10 and 11, then the line's own
-unfoldable pub unlessStopped : Security → Trade → Plan → Plan
-unlessStopped s t p =
+-- T, X, E, C: refusals 6, 10 and 11, then the line's own
+unfoldable pub unlessStopped : Security → (lawful matched : Bool) → Plan → Plan
+unlessStopped s lawful matched p =
     pick (not (isEntered s)) (Stop NotEntered)
-    (pick (not (t .lawful && onNetwork (s .issue .network) (t .side .letters))) (Stop Conditions)
-    (pick (not (t .matched)) (Stop Unmatched) p))
+    (pick (not lawful) (Stop Conditions)
+    (pick (not matched) (Stop Unmatched) p))
+
+-- the letters of T, X, E: lawful by themselves, and on the security's network
+abbrev pub isLawful : Security → Trade → Bool
+isLawful s t = t .lawful && onNetwork (s .issue .network) (t .side .letters)
+
+-- those of both sides of C
+abbrev pub areLawful : Security → Correction → Bool
+areLawful s c = c .lawful && (onNetwork (s .issue .network) (c .original .letters) && onNetwork (s .issue .network) (c .correcting .letters))
 
 unfoldable pub tradePlan : Settings → Security → Trade → Plan
-tradePlan st s t = unlessStopped s t (Print (printPlan st s t))
+tradePlan st s t = unlessStopped s (isLawful s t) (t .matched) (Print (printPlan st s t))
 
 -- X, E: how it prints; it moves nothing
 unfoldable pub cancelOf : Bool → Settings → Security → Trade → CancelPlan
@@ -78,7 +86,7 @@ cancelOf error st s t = record {
 }
 
 unfoldable pub cancelPlan : Bool → Settings → Security → Trade → Plan
-cancelPlan error st s t = unlessStopped s t (Cancel (cancelOf error st s t))
+cancelPlan error st s t = unlessStopped s (isLawful s t) (t .matched) (Cancel (cancelOf error st s t))
 
 -- C: how it prints, and the security after it
 unfoldable pub correctionOf : Settings → Security → Correction → CorrectionPlan
@@ -95,11 +103,7 @@ correctionOf st s c = record {
 }
 
 unfoldable pub correctionPlan : Settings → Security → Correction → Plan
-correctionPlan st s c =
-    pick (not (isEntered s)) (Stop NotEntered)
-    (pick (not (c .lawful && (onNetwork (s .issue .network) (c .original .letters) && onNetwork (s .issue .network) (c .correcting .letters)))) (Stop Conditions)
-    (pick (not (c .matched)) (Stop Unmatched)
-    (Correct (correctionOf st s c))))
+correctionPlan st s c = unlessStopped s (areLawful s c) (c .matched) (Correct (correctionOf st s c))
 
 -- a line that is in its form and within its values
 unfoldable pub linePlan : Settings → List ℕ → List ℕ → List ℕ → Line → Plan

@@ -27,10 +27,9 @@ ghost use lib.ListN.{length};
 ghost use Rattle.rules.specs.Sizes.{width, nameWidth, securityPlaces};
 ghost use Rattle.rules.specs.Line.{isShaped, isKind};
 ghost use Rattle.rules.specs.Names.{sameName};
-ghost use Rattle.rules.specs.Conditions.{onNetwork};
 ghost use Rattle.rules.specs.Day.{isEntered, takenName, entered};
 ghost use Rattle.call_table.specs.Rows.{row, nameOf, rowsFrom, namesFrom};
-ghost use Rattle.call_plan.specs.Plan.{datePlan, listingPlan, printPlan, unlessStopped, tradePlan, cancelOf, cancelPlan, correctionOf, correctionPlan, linePlan, readPlan, planOf};
+ghost use Rattle.call_plan.specs.Plan.{datePlan, listingPlan, printPlan, unlessStopped, isLawful, areLawful, tradePlan, cancelOf, cancelPlan, correctionOf, correctionPlan, linePlan, readPlan, planOf};
 ghost use Rattle.line_owed.specs.Owed.{OwedListing, OwedTrade, OwedCorrection, OwedLine};
 
 // What an accepted trade prints, and the security after it.
@@ -212,7 +211,7 @@ fn print_plan(st: Settings, s: Security, t: Trade) -> TradePlan
 }
 
 fn is_lawful(s: Security, t: Trade) -> bool
-    ensures { λ r. ⌜ r ≡ (t .lawful && onNetwork (s .issue .network) (t .side .letters)) ⌝ }
+    ensures { λ r. ⌜ r ≡ isLawful s t ⌝ }
 {
     let x = t.side;
     let letters = x.letters;
@@ -222,17 +221,17 @@ fn is_lawful(s: Security, t: Trade) -> bool
     decide_letters::on_network(s.issue.network, letters)
 }
 
-// T, X, E: refusals 6, 10 and 11, then what the line asks for.
-fn unless_stopped(s: Security, t: Trade, p: Plan) -> Plan
-    ensures { λ r. ⌜ r ≡ unlessStopped s t p ⌝ }
+// T, X, E, C: refusals 6, 10 and 11, then what the line asks for.
+fn unless_stopped(s: Security, lawful: bool, matched: bool, p: Plan) -> Plan
+    ensures { λ r. ⌜ r ≡ unlessStopped s lawful matched p ⌝ }
 {
     if !decide_letters::is_entered(s) {
         return Plan::Stop(Refusal::NotEntered);
     }
-    if !is_lawful(s, t) {
+    if !lawful {
         return Plan::Stop(Refusal::Conditions);
     }
-    if !t.matched {
+    if !matched {
         return Plan::Stop(Refusal::Unmatched);
     }
     p
@@ -242,7 +241,12 @@ fn trade_plan(st: Settings, s: Security, t: Trade) -> Plan
     requires { ⌜ OwedTrade t ⌝ }
     ensures { λ r. ⌜ r ≡ tradePlan st s t ⌝ }
 {
-    unless_stopped(s, t, Plan::Print(print_plan(st, s, t)))
+    unless_stopped(
+        s,
+        is_lawful(s, t),
+        t.matched,
+        Plan::Print(print_plan(st, s, t)),
+    )
 }
 
 fn trade_at(st: Settings, table: &Table, t: Trade) -> Plan
@@ -274,7 +278,12 @@ fn cancel_plan(error: bool, st: Settings, s: Security, t: Trade) -> Plan
     requires { ⌜ OwedTrade t ⌝ }
     ensures { λ r. ⌜ r ≡ cancelPlan error st s t ⌝ }
 {
-    unless_stopped(s, t, Plan::Cancel(cancel_of(error, st, s, t)))
+    unless_stopped(
+        s,
+        is_lawful(s, t),
+        t.matched,
+        Plan::Cancel(cancel_of(error, st, s, t)),
+    )
 }
 
 fn cancel_at(error: bool, st: Settings, table: &Table, t: Trade) -> Plan
@@ -307,7 +316,7 @@ fn correction_of(st: Settings, s: Security, c: Correction) -> CorrectionPlan
 
 // Letters lawful by themselves, and on the security's network, on both sides.
 fn are_lawful(s: Security, c: Correction) -> bool
-    ensures { λ r. ⌜ r ≡ (c .lawful && (onNetwork (s .issue .network) (c .original .letters) && onNetwork (s .issue .network) (c .correcting .letters))) ⌝ }
+    ensures { λ r. ⌜ r ≡ areLawful s c ⌝ }
 {
     let x = c.original;
     let y = c.correcting;
@@ -326,16 +335,12 @@ fn correction_plan(st: Settings, s: Security, c: Correction) -> Plan
     requires { ⌜ OwedCorrection c ⌝ }
     ensures { λ r. ⌜ r ≡ correctionPlan st s c ⌝ }
 {
-    if !decide_letters::is_entered(s) {
-        return Plan::Stop(Refusal::NotEntered);
-    }
-    if !are_lawful(s, c) {
-        return Plan::Stop(Refusal::Conditions);
-    }
-    if !c.matched {
-        return Plan::Stop(Refusal::Unmatched);
-    }
-    Plan::Correct(correction_of(st, s, c))
+    unless_stopped(
+        s,
+        are_lawful(s, c),
+        c.matched,
+        Plan::Correct(correction_of(st, s, c)),
+    )
 }
 
 fn correction_at(st: Settings, table: &Table, c: Correction) -> Plan

@@ -1,13 +1,12 @@
 -- What the plan of any line owes: a place in the tables, a unit, few decimals. Assumes nothing.
-use Prim.Native.Nat.{ℕ, zero, suc, _-_, _≤_, _<_}
+use Prim.Native.Nat.{ℕ, _≤_}
 use native.Mathlib.Omega.{arith}
-use mathlib.Core.Path.{_≡_, refl, sym, ap, _∙_}
-use mathlib.Core.Bool.{Bool, true, false, _&&_, not}
-use mathlib.Core.List.{List, []}
+use mathlib.Core.Path.{_≡_, refl}
+use mathlib.Core.Bool.{Bool, true, false, not}
+use mathlib.Core.List.{List}
 use lib.Dec.{eqb}
 use lib.ListN.{length}
 use borrow.Author.Tests.{eqb-false, not-true, not-false}
-use Rattle.text.specs.Pick.{pick}
 use Rattle.rules.specs.Line.{isShaped, lineOf, nameColumns, firstSide, secondSide}
 use Rattle.rules.specs.Day.{isEntered}
 use Rattle.rules.specs.declared.Listing.{Listing}
@@ -20,13 +19,12 @@ use Rattle.rules.specs.declared.Security.{Security}
 use Rattle.rules.specs.Sizes.{width}
 use Rattle.text.proofs.Booleans.{pick-cases, nonzero}
 use Rattle.call_plan.specs.declared.Plan.{Plan}
-use Rattle.call_plan.specs.declared.Plan.the-variants.{Stop, Open, Enter, Change, Level, Step, Print, Cancel, Correct}
 use Rattle.call_plan.specs.Plan.{datePlan, listingPlan, unlessStopped, printPlan, tradePlan, cancelOf, cancelPlan, correctionOf, correctionPlan, linePlan, readPlan, planOf}
 use Rattle.call_plan.proofs.Read.{shaped}
 use Rattle.line_owed.specs.Owed.{OwedListing, OwedTrade, OwedCorrection, OwedLine, SideColumns, StandsLine}
 use Rattle.line_owed.proofs.Below.{in-range}
 use Rattle.line_owed.proofs.Owed.{owed-line, stands-line}
-use Rattle.call_print.specs.Print.{SoundPrint, SoundCancel, SoundCorrect, SoundPlan}
+use Rattle.call_print.specs.Print.{SoundPlan}
 
 pub has-unit : (s : Security) → not (isEntered s) ≡ false → 1 ≤ s .issue .unit
 unfolding isEntered
@@ -44,9 +42,9 @@ module _ (st : Settings) (table names line : List ℕ) where
       pick-cases (SoundPlan line) _ _ _ (λ z. tt) (λ f.
       pick-cases (SoundPlan line) _ _ _ (λ z. tt) (λ g. (omega (arith, h .low, h .high), k))))
 
-  stops-sound : (s : Security) (t : Trade) (p : Plan) → (1 ≤ s .issue .unit → SoundPlan line p) → SoundPlan line (unlessStopped s t p)
+  stops-sound : (s : Security) (lawful matched : Bool) (p : Plan) → (1 ≤ s .issue .unit → SoundPlan line p) → SoundPlan line (unlessStopped s lawful matched p)
   unfolding unlessStopped SoundPlan
-  stops-sound s t p h =
+  stops-sound s lawful matched p h =
       pick-cases (SoundPlan line) _ _ _ (λ z. tt) (λ e.
       pick-cases (SoundPlan line) _ _ _ (λ z. tt) (λ f.
       pick-cases (SoundPlan line) _ _ _ (λ z. tt) (λ g. h (has-unit s e))))
@@ -54,18 +52,15 @@ module _ (st : Settings) (table names line : List ℕ) where
   module _ (k : length line ≡ width) where
     trade-sound : (s : Security) (t : Trade) → OwedTrade t → SideColumns (firstSide line) (t .side) → SoundPlan line (tradePlan st s t)
     unfolding tradePlan printPlan SoundPlan
-    trade-sound s t h w = stops-sound s t _ (λ u. record { place-is = omega (arith, h .low, h .high); unit-is = u; line-is = k; stands = w })
+    trade-sound s t h w = stops-sound s _ _ _ (λ u. record { place-is = omega (arith, h .low, h .high); unit-is = u; line-is = k; stands = w })
 
     cancel-sound : (error : Bool) (s : Security) (t : Trade) → OwedTrade t → SideColumns (firstSide line) (t .side) → SoundPlan line (cancelPlan error st s t)
     unfolding cancelPlan cancelOf SoundPlan
-    cancel-sound error s t h w = stops-sound s t _ (λ u. record { place-is = omega (arith, h .low, h .high); unit-is = u; line-is = k; stands = w })
+    cancel-sound error s t h w = stops-sound s _ _ _ (λ u. record { place-is = omega (arith, h .low, h .high); unit-is = u; line-is = k; stands = w })
 
     correction-sound : (s : Security) (c : Correction) → OwedCorrection c → SideColumns (firstSide line) (c .original) × SideColumns (secondSide line) (c .correcting) → SoundPlan line (correctionPlan st s c)
     unfolding correctionPlan correctionOf SoundPlan
-    correction-sound s c h w =
-        pick-cases (SoundPlan line) _ _ _ (λ z. tt) (λ e.
-        pick-cases (SoundPlan line) _ _ _ (λ z. tt) (λ f.
-        pick-cases (SoundPlan line) _ _ _ (λ z. tt) (λ g. record { place-is = omega (arith, h .low, h .high); unit-is = has-unit s e; line-is = k; original-stands = w .0; correcting-stands = w .1 })))
+    correction-sound s c h w = stops-sound s _ _ _ (λ u. record { place-is = omega (arith, h .low, h .high); unit-is = u; line-is = k; original-stands = w .0; correcting-stands = w .1 })
 
     line-sound : (name : List ℕ) (l : Line) → OwedLine l → StandsLine line l → SoundPlan line (linePlan st table names name l)
     unfolding linePlan OwedLine StandsLine SoundPlan

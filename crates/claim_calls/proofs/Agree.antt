@@ -2,7 +2,7 @@
 use Prim.Native.Nat.{ℕ, _-_}
 use native.Mathlib.Omega.{arith}
 use mathlib.Core.Path.{_≡_, refl, sym, ap, _∙_}
-use mathlib.Core.Bool.{Bool, true, false, _&&_, not}
+use mathlib.Core.Bool.{Bool, true, false, not}
 use mathlib.Core.List.{List, []}
 use mathlib.Core.Option.{Option, none, some}
 use lib.Dec.{ltb}
@@ -10,7 +10,6 @@ use lib.ListN.{length}
 use borrow.Author.Tests.{le-ltb, not-false}
 use Rattle.text.specs.Pick.{pick, opt}
 use Rattle.rules.specs.Names.{nameText}
-use Rattle.rules.specs.Conditions.{onNetwork}
 use Rattle.rules.specs.Side.{sideText}
 use Rattle.rules.specs.Trade.{printsTrade, tradeForm, tradeShows, afterTrade}
 use Rattle.rules.specs.Correction.{correctionText, cancelText, cancelOpening, errorOpening, printsCorrection, correctionForm, correctionShows, cancelForm, cancelShows, afterCorrection}
@@ -34,7 +33,7 @@ use Rattle.call_table.specs.Rows.{row, nameOf, dayOf}
 use Rattle.call_table.proofs.Held.{held-security, held-name, security-set, name-set, held-cleared}
 use Rattle.call_plan.specs.declared.Plan.{Plan}
 use Rattle.call_plan.specs.declared.Plan.the-variants.{Stop, Open, Enter, Change, Level, Step, Print, Cancel, Correct}
-use Rattle.call_plan.specs.Plan.{datePlan, listingPlan, unlessStopped, printPlan, tradePlan, cancelOf, cancelPlan, correctionOf, correctionPlan, linePlan, readPlan, planOf}
+use Rattle.call_plan.specs.Plan.{datePlan, listingPlan, unlessStopped, isLawful, areLawful, printPlan, tradePlan, cancelOf, cancelPlan, correctionOf, correctionPlan, linePlan, readPlan, planOf}
 use Rattle.line_owed.specs.Owed.{OwedListing, OwedTrade, OwedCorrection, OwedLine}
 use Rattle.line_owed.proofs.Owed.{owed-line}
 use Rattle.call_plan.proofs.Read.{shaped}
@@ -143,6 +142,15 @@ module _ (st : Settings) (table names line : List ℕ) (room : ℕ) where
         asks _ _ _ _ _ _ _ _ refl (λ f. stops _ _ Name) (λ f.
         asks _ _ _ _ _ _ _ _ refl (λ g. stops _ _ SameName) (λ g. ends [] _ (Enter (l .number - 1) (entered l)) refl refl (held-listing l h))))
 
+    -- the refusals of T, X, E and C
+    unless-stopped : (y s : Security) → y ≡ s → (lawful : Security → Bool) (matched : Bool) (text : List ℕ) (after : Day) (later : Option Refusal) (p : Plan) → Agrees text after later p
+        → Agrees text after (refuse (not (isEntered y)) NotEntered (refuse (not (lawful y)) Conditions (refuse (not matched) Unmatched later))) (unlessStopped s (lawful s) matched p)
+    unfolding refuse unlessStopped
+    unless-stopped y s e lawful matched text after later p a =
+        asks _ _ _ _ _ _ _ _ (ap (λ (x : Security). not (isEntered x)) e) (λ f. stops _ _ NotEntered) (λ f.
+        asks _ _ _ _ _ _ _ _ (ap (λ (x : Security). not (lawful x)) e) (λ g. stops _ _ Conditions) (λ g.
+        asks _ _ _ _ _ _ _ _ refl (λ k. stops _ _ Unmatched) (λ k. a)))
+
     module _ (t : Trade) (h : OwedTrade t) where
       abbrev s : Security
       s = row table (t .security - 1)
@@ -158,17 +166,9 @@ module _ (st : Settings) (table names line : List ℕ) (room : ℕ) where
       unfolding afterLine dayOf dayAfter settingsAfter tableAfter namesAfter printPlan
       held-trade = rw (security-set st table names (t .security) (h .low) (h .high) (afterTrade st s (t .market) (t .side)) rows, stands)
 
-      -- the refusals of T, X and E
-      unless-stopped : (text : List ℕ) (after : Day) (p : Plan) → Agrees text after (refuse (ltb room (length text)) Room none) p → Agrees text after (tradeRefusal (securityAt day (t .security)) t (refuse (ltb room (length text)) Room none)) (unlessStopped s t p)
-      unfolding tradeRefusal refuse unlessStopped
-      unless-stopped text after p a =
-          asks _ _ _ _ _ _ _ _ (ap (λ (x : Security). not (isEntered x)) stands) (λ e. stops _ _ NotEntered) (λ e.
-          asks _ _ _ _ _ _ _ _ (ap (λ (x : Security). not (t .lawful && onNetwork (x .issue .network) (t .side .letters))) stands) (λ f. stops _ _ Conditions) (λ f.
-          asks _ _ _ _ _ _ _ _ refl (λ g. stops _ _ Unmatched) (λ g. a)))
-
       same-trade : Same (Traded t)
-      unfolding stateRefusal linePlan tradePlan rules.printOf stopOf
-      same-trade = unless-stopped (tradePrint day t) _ _ (ends (tradePrint day t) _ (Print (printPlan st s t)) refl trade-print held-trade)
+      unfolding stateRefusal tradeRefusal linePlan tradePlan rules.printOf stopOf
+      same-trade = unless-stopped _ s stands (λ y. isLawful y t) (t .matched) (tradePrint day t) _ _ _ (ends (tradePrint day t) _ (Print (printPlan st s t)) refl trade-print held-trade)
 
       cancel-print : (error : Bool) → printOf st names (Cancel (cancelOf error st s t)) ≡ cancelPrint (pick error errorOpening cancelOpening) day t
       unfolding printOf textOf printedName cancelled cancelOf
@@ -179,12 +179,12 @@ module _ (st : Settings) (table names line : List ℕ) (room : ℕ) where
       held-cancel error = refl
 
       same-cancel : Same (Cancelled t)
-      unfolding stateRefusal linePlan cancelPlan rules.printOf afterLine stopOf pick
-      same-cancel = unless-stopped (cancelPrint cancelOpening day t) _ _ (ends (cancelPrint cancelOpening day t) _ (Cancel (cancelOf false st s t)) refl (cancel-print false) (held-cancel false))
+      unfolding stateRefusal tradeRefusal linePlan cancelPlan rules.printOf afterLine stopOf pick
+      same-cancel = unless-stopped _ s stands (λ y. isLawful y t) (t .matched) (cancelPrint cancelOpening day t) _ _ _ (ends (cancelPrint cancelOpening day t) _ (Cancel (cancelOf false st s t)) refl (cancel-print false) (held-cancel false))
 
       same-error : Same (Erred t)
-      unfolding stateRefusal linePlan cancelPlan rules.printOf afterLine stopOf pick
-      same-error = unless-stopped (cancelPrint errorOpening day t) _ _ (ends (cancelPrint errorOpening day t) _ (Cancel (cancelOf true st s t)) refl (cancel-print true) (held-cancel true))
+      unfolding stateRefusal tradeRefusal linePlan cancelPlan rules.printOf afterLine stopOf pick
+      same-error = unless-stopped _ s stands (λ y. isLawful y t) (t .matched) (cancelPrint errorOpening day t) _ _ _ (ends (cancelPrint errorOpening day t) _ (Cancel (cancelOf true st s t)) refl (cancel-print true) (held-cancel true))
 
     module _ (c : Correction) (h : OwedCorrection c) where
       abbrev x : Security
@@ -202,11 +202,8 @@ module _ (st : Settings) (table names line : List ℕ) (room : ℕ) where
       held-correction = rw (security-set st table names (c .security) (h .low) (h .high) (afterCorrection x (c .correcting)) rows, stands-corrected)
 
       same-correction : Same (Corrected c)
-      unfolding stateRefusal correctionRefusal refuse linePlan correctionPlan rules.printOf stopOf
-      same-correction =
-          asks _ _ _ _ _ _ _ _ (ap (λ (s : Security). not (isEntered s)) stands-corrected) (λ e. stops _ _ NotEntered) (λ e.
-          asks _ _ _ _ _ _ _ _ (ap (λ (s : Security). not (c .lawful && (onNetwork (s .issue .network) (c .original .letters) && onNetwork (s .issue .network) (c .correcting .letters)))) stands-corrected) (λ f. stops _ _ Conditions) (λ f.
-          asks _ _ _ _ _ _ _ _ refl (λ g. stops _ _ Unmatched) (λ g. ends (correctionPrint day c) _ (Correct (correctionOf st x c)) refl correction-print held-correction)))
+      unfolding stateRefusal correctionRefusal linePlan correctionPlan rules.printOf stopOf
+      same-correction = unless-stopped _ x stands-corrected (λ y. areLawful y c) (c .matched) (correctionPrint day c) _ _ _ (ends (correctionPrint day c) _ (Correct (correctionOf st x c)) refl correction-print held-correction)
 
 -- ---- every kind
 

@@ -75,7 +75,7 @@ module _ (st : Settings) (table names name : List ℕ) where
   cancel-none error s t = no-case _ _ _ refl (no-case _ _ _ refl (no-case _ _ _ refl refl))
 
   correction-none : (s : Security) (c : Correction) → isTrade (correctionPlan st s c) ≡ false
-  unfolding correctionPlan isTrade
+  unfolding correctionPlan unlessStopped isTrade
   correction-none s c = no-case _ _ _ refl (no-case _ _ _ refl (no-case _ _ _ refl refl))
 
   -- the kind of a line whose plan is a trade

@@ -36,7 +36,7 @@ use Rattle.call_table.specs.Rows.{row, nameOf, dayOf}
 use Rattle.call_table.proofs.Held.{held-security, held-name}
 use Rattle.call_plan.specs.declared.Plan.{Plan}
 use Rattle.call_plan.specs.declared.Plan.the-variants.{Stop, Open, Enter, Change, Level, Step, Print, Cancel, Correct}
-use Rattle.call_plan.specs.Plan.{datePlan, listingPlan, unlessStopped, printPlan, tradePlan, cancelOf, cancelPlan, correctionOf, correctionPlan, linePlan, readPlan, planOf}
+use Rattle.call_plan.specs.Plan.{datePlan, listingPlan, unlessStopped, isLawful, printPlan, tradePlan, cancelOf, cancelPlan, correctionOf, correctionPlan, linePlan, readPlan, planOf}
 use Rattle.line_owed.specs.Shown.{Showable, shownSide}
 use Rattle.line_owed.specs.Owed.{OwedTrade, OwedCorrection, OwedLine}
 use Rattle.line_owed.proofs.Shown.{previous-sound, shown-owed}
@@ -148,6 +148,10 @@ module _ (st : Settings) (table names : List ℕ) where
   unfolding listingPlan SoundFact stopOf unless planFact factOf
   fits-listing name l = asks _ _ _ _ (λ e. asks _ _ _ _ (λ f. asks _ _ _ _ (λ g. record { sound = tt; fact = refl })))
 
+  unless-stopped : (l : Line) (s : Security) (lawful matched : Bool) (p : Plan) → (1 ≤ s .issue .unit → lawful ≡ true → matched ≡ true → Fits l p) → Fits l (unlessStopped s lawful matched p)
+  unfolding unlessStopped
+  unless-stopped l s lawful matched p f = asks _ _ _ _ (λ e. asks _ _ _ _ (λ g. asks _ _ _ _ (λ m. f (has-unit s e) (not-false lawful g) (not-false matched m))))
+
   module _ (t : Trade) (h : OwedTrade t) where
     abbrev s : Security
     s = row table (t .security - 1)
@@ -158,11 +162,8 @@ module _ (st : Settings) (table names : List ℕ) where
     stands : securityAt day (t .security) ≡ s
     stands = held-security st table names (t .security) (h .low) (h .high)
 
-    unless-stopped : (l : Line) (p : Plan) → (1 ≤ s .issue .unit → SoundSide (t .side) → Fits l p) → Fits l (unlessStopped s t p)
-    unfolding unlessStopped
-    unless-stopped l p f = asks _ _ _ _ (λ e. asks _ _ _ _ (λ g. asks _ _ _ _ (λ m.
-        let k = not-false (t .lawful && onNetwork (s .issue .network) (t .side .letters)) g in
-        f (has-unit s e) (side-sound (s .issue .network) (t .side) (h .shows (s .issue .network) (and-left (t .lawful) _ k) (and-right (t .lawful) _ k) (not-false (t .matched) m))))))
+    unless-unsound : (l : Line) (p : Plan) → (1 ≤ s .issue .unit → SoundSide (t .side) → Fits l p) → Fits l (unlessStopped s (isLawful s t) (t .matched) p)
+    unless-unsound l p f = unless-stopped l s _ _ p (λ u k m. f u (side-sound (s .issue .network) (t .side) (h .shows (s .issue .network) (and-left (t .lawful) _ k) (and-right (t .lawful) _ k) m)))
 
     trade-fact : planFact st names (Print (printPlan st s t)) ≡ factOf day (Traded t)
     unfolding planFact printPlan volumeOf showsShares
@@ -170,7 +171,7 @@ module _ (st : Settings) (table names : List ℕ) where
 
     fits-trade : Fits (Traded t) (tradePlan st s t)
     unfolding tradePlan SoundFact printPlan stopOf unless
-    fits-trade = unless-stopped (Traded t) _ (λ u m. record { sound = record { place-is = omega (arith, h .low, h .high); unit-is = u; side-is = m }; fact = trade-fact })
+    fits-trade = unless-unsound (Traded t) _ (λ u m. record { sound = record { place-is = omega (arith, h .low, h .high); unit-is = u; side-is = m }; fact = trade-fact })
 
     cancel-fact : planFact st names (Cancel (cancelOf false st s t)) ≡ factOf day (Cancelled t)
     unfolding planFact cancelOf factOf pick
@@ -178,7 +179,7 @@ module _ (st : Settings) (table names : List ℕ) where
 
     fits-cancel : Fits (Cancelled t) (cancelPlan false st s t)
     unfolding cancelPlan SoundFact cancelOf stopOf unless
-    fits-cancel = unless-stopped (Cancelled t) _ (λ u m. record { sound = record { place-is = omega (arith, h .low, h .high); side-is = m }; fact = cancel-fact })
+    fits-cancel = unless-unsound (Cancelled t) _ (λ u m. record { sound = record { place-is = omega (arith, h .low, h .high); side-is = m }; fact = cancel-fact })
 
     error-fact : planFact st names (Cancel (cancelOf true st s t)) ≡ factOf day (Erred t)
     unfolding planFact cancelOf factOf pick
@@ -186,7 +187,7 @@ module _ (st : Settings) (table names : List ℕ) where
 
     fits-error : Fits (Erred t) (cancelPlan true st s t)
     unfolding cancelPlan SoundFact cancelOf stopOf unless
-    fits-error = unless-stopped (Erred t) _ (λ u m. record { sound = record { place-is = omega (arith, h .low, h .high); side-is = m }; fact = error-fact })
+    fits-error = unless-unsound (Erred t) _ (λ u m. record { sound = record { place-is = omega (arith, h .low, h .high); side-is = m }; fact = error-fact })
 
   module _ (c : Correction) (h : OwedCorrection c) where
     abbrev x : Security
@@ -212,7 +213,7 @@ module _ (st : Settings) (table names : List ℕ) where
 
     fits-correction : Fits (Corrected c) (correctionPlan st x c)
     unfolding correctionPlan stopOf unless
-    fits-correction = asks _ _ _ _ (λ e. asks _ _ _ _ (λ f. asks _ _ _ _ (λ m. record { sound = correction-sound (not-false (c .lawful && on) f) (not-false (c .matched) m); fact = correction-fact })))
+    fits-correction = unless-stopped (Corrected c) x _ _ _ (λ u k m. record { sound = correction-sound k m; fact = correction-fact })
 
   -- ---- every kind
 

@@ -1,4 +1,5 @@
-use Rattle.call_plan.proofs.Plans.{kinds}
+use Rattle.call_plan.specs.Plan.{linePlan}
+use Rattle.call_plan.proofs.Plans.{line-case}
 use Rattle.line_owed.proofs.Owed.{owed-kinds}
 use borrow.Author.Needs.{needs}
 use Rattle.call_plan.proofs.line_plan.Statement.{statement}
@@ -50,31 +51,40 @@ correction-at-requires : tie.Need-correction-at-requires
 correction-at-requires c κs = search owed-kinds
 
 returns : tie.Need-returns
-returns c = search kinds
+unfolding linePlan
+returns c = search line-case
 
 returns-2 : tie.Need-returns-2
-returns-2 c = search kinds
+unfolding linePlan
+returns-2 c = search line-case
 
 returns-3 : tie.Need-returns-3
-returns-3 c = search kinds
+unfolding linePlan
+returns-3 c = search line-case
 
 returns-4 : tie.Need-returns-4
-returns-4 c = search kinds
+unfolding linePlan
+returns-4 c = search line-case
 
 returns-5 : tie.Need-returns-5
-returns-5 c = search kinds
+unfolding linePlan
+returns-5 c = search line-case
 
 returns-6 : tie.Need-returns-6
-returns-6 c = search kinds
+unfolding linePlan
+returns-6 c = search line-case
 
 returns-7 : tie.Need-returns-7
-returns-7 c = search kinds
+unfolding linePlan
+returns-7 c = search line-case
 
 returns-8 : tie.Need-returns-8
-returns-8 c = search kinds
+unfolding linePlan
+returns-8 c = search line-case
 
 returns-9 : tie.Need-returns-9
-returns-9 c = search kinds
+unfolding linePlan
+returns-9 c = search line-case
 
 pub line-plan-spec : {M : Type 1} → statement M
 line-plan-spec =

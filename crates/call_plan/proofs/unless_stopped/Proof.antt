@@ -11,9 +11,6 @@ returns : tie.Need-returns
 unfolding unlessStopped
 returns c = search answers depth 9
 
-is-lawful-requires : tie.Need-is-lawful-requires
-is-lawful-requires c κs = search needs
-
 returns-2 : tie.Need-returns-2
 unfolding unlessStopped
 returns-2 c = search answers depth 9
@@ -29,4 +26,4 @@ returns-4 c = search answers depth 9
 pub unless-stopped-spec : {M : Type 1} → statement M
 unless-stopped-spec =
     tie.close
-    (tie.spec is-entered-requires returns is-lawful-requires returns-2 returns-3 returns-4)
+    (tie.spec is-entered-requires returns returns-2 returns-3 returns-4)
