@@ -13,7 +13,7 @@ use Rattle.text.proofs.Booleans.{or-left}
 use Rattle.text.proofs.Writing.{joined, named, room, fits, shorter, length-joined, written-nothing}
 use Rattle.rules.specs.Volume.{fullVolume, isRound, inShares, inHundreds, inTens, volumeText}
 use Rattle.print_volume.specs.declared.Form.{Form}
-use Rattle.print_volume.specs.Form.{marks, markedText, Formed}
+use Rattle.print_volume.specs.Form.{marks, markedText, shares, hundreds, tens, fullHundreds, fullTens, formOf, Formed}
 use Rattle.print_volume.proofs.VolumeBack.{small}
 
 -- ---- which form
@@ -22,40 +22,42 @@ module _ (network unit v : ℕ) (b : Bool) (e : b ≡ (not (isRound unit v) || (
   whole : v / 1 ≡ v
   whole = omega arith
 
-  in-shares : volumeText network unit v ≡ inShares v → Formed network unit v (record { cut = 0; mark = 8; size = 4 })
+  in-shares : shares ≡ formOf network unit v → volumeText network unit v ≡ inShares v → Formed network unit v shares
   unfolding inShares markedText pick
-  in-shares t = record { text-is = t ∙ rw whole; cut-most = λ o. o; cut-few = omega arith; mark-most = omega arith; size-most = omega arith }
+  in-shares d t = record { form-is = d; text-is = t ∙ rw whole; cut-most = λ o. o; cut-few = omega arith; mark-most = omega arith; size-most = omega arith }
 
-  pub formed-shares : b ≡ true → Formed network unit v (record { cut = 0; mark = 8; size = 4 })
-  unfolding volumeText pick
-  formed-shares h = in-shares (rw (sym e ∙ h))
+  pub formed-shares : b ≡ true → Formed network unit v shares
+  unfolding formOf volumeText pick
+  formed-shares h = in-shares (rw (sym e ∙ h)) (rw (sym e ∙ h))
 
   module _ (h : b ≡ false) where
     round : v % unit ≡ 0
     unfolding isRound
     round = eqb-true (v % unit) 0 (not-false (eqb (v % unit) 0) (or-left _ _ (sym e ∙ h)))
 
-    pub formed-hundreds : v < 10000 → unit ≡ 100 → Formed network unit v (record { cut = 2; mark = 0; size = 1 })
-    unfolding volumeText inHundreds markedText pick
-    formed-hundreds l u =
-        let r : v % 100 ≡ 0 = ap (λ (n : ℕ). v % n) (sym u) ∙ round in
-        record { text-is = rw (sym e ∙ h, eq-eqb unit 100 u, lt-ltb v 10000 l, small (v / 100) (omega arith)); cut-most = λ o. omega arith; cut-few = omega arith; mark-most = omega arith; size-most = omega arith }
+    module _ (l : v < 10000) where
+      pub formed-hundreds : unit ≡ 100 → Formed network unit v hundreds
+      unfolding formOf volumeText inHundreds markedText pick
+      formed-hundreds u =
+          let r : v % 100 ≡ 0 = ap (λ (n : ℕ). v % n) (sym u) ∙ round in
+          record { form-is = rw (sym e ∙ h, eq-eqb unit 100 u, lt-ltb v 10000 l); text-is = rw (sym e ∙ h, eq-eqb unit 100 u, lt-ltb v 10000 l, small (v / 100) (omega arith)); cut-most = λ o. omega arith; cut-few = omega arith; mark-most = omega arith; size-most = omega arith }
 
-    pub formed-tens : v < 10000 → (unit ≡ 100 → ⊥) → v % 10 ≡ 0 → Formed network unit v (record { cut = 1; mark = 4; size = 1 })
-    unfolding volumeText inTens markedText pick
-    formed-tens l u r = record { text-is = rw (sym e ∙ h, ne-eqb unit 100 u, lt-ltb v 10000 l, eq-eqb (v % 10) 0 r, small (v / 10) (omega arith)); cut-most = λ o. omega arith; cut-few = omega arith; mark-most = omega arith; size-most = omega arith }
+      pub formed-tens : (unit ≡ 100 → ⊥) → v % 10 ≡ 0 → Formed network unit v tens
+      unfolding formOf volumeText inTens markedText pick
+      formed-tens u r = record { form-is = rw (sym e ∙ h, ne-eqb unit 100 u, lt-ltb v 10000 l, eq-eqb (v % 10) 0 r); text-is = rw (sym e ∙ h, ne-eqb unit 100 u, lt-ltb v 10000 l, eq-eqb (v % 10) 0 r, small (v / 10) (omega arith)); cut-most = λ o. omega arith; cut-few = omega arith; mark-most = omega arith; size-most = omega arith }
 
-    pub formed-odd : v < 10000 → (unit ≡ 100 → ⊥) → (v % 10 ≡ 0 → ⊥) → Formed network unit v (record { cut = 0; mark = 8; size = 4 })
-    unfolding volumeText inTens pick
-    formed-odd l u r = in-shares (rw (sym e ∙ h, ne-eqb unit 100 u, lt-ltb v 10000 l, ne-eqb (v % 10) 0 r))
+      pub formed-odd : (unit ≡ 100 → ⊥) → (v % 10 ≡ 0 → ⊥) → Formed network unit v shares
+      unfolding formOf volumeText inTens pick
+      formed-odd u r = in-shares (rw (sym e ∙ h, ne-eqb unit 100 u, lt-ltb v 10000 l, ne-eqb (v % 10) 0 r)) (rw (sym e ∙ h, ne-eqb unit 100 u, lt-ltb v 10000 l, ne-eqb (v % 10) 0 r))
 
-    pub formed-full-hundreds : 10000 ≤ v → unit ≡ 100 → Formed network unit v (record { cut = 0; mark = 0; size = 1 })
-    unfolding volumeText inHundreds markedText pick
-    formed-full-hundreds l u = record { text-is = rw (sym e ∙ h, eq-eqb unit 100 u, le-ltb v 10000 l, whole); cut-most = λ o. o; cut-few = omega arith; mark-most = omega arith; size-most = omega arith }
+    module _ (l : 10000 ≤ v) where
+      pub formed-full-hundreds : unit ≡ 100 → Formed network unit v fullHundreds
+      unfolding formOf volumeText inHundreds markedText pick
+      formed-full-hundreds u = record { form-is = rw (sym e ∙ h, eq-eqb unit 100 u, le-ltb v 10000 l); text-is = rw (sym e ∙ h, eq-eqb unit 100 u, le-ltb v 10000 l, whole); cut-most = λ o. o; cut-few = omega arith; mark-most = omega arith; size-most = omega arith }
 
-    pub formed-full-tens : 10000 ≤ v → (unit ≡ 100 → ⊥) → Formed network unit v (record { cut = 0; mark = 4; size = 1 })
-    unfolding volumeText inTens markedText pick
-    formed-full-tens l u = record { text-is = rw (sym e ∙ h, ne-eqb unit 100 u, le-ltb v 10000 l, whole); cut-most = λ o. o; cut-few = omega arith; mark-most = omega arith; size-most = omega arith }
+      pub formed-full-tens : (unit ≡ 100 → ⊥) → Formed network unit v fullTens
+      unfolding formOf volumeText inTens markedText pick
+      formed-full-tens u = record { form-is = rw (sym e ∙ h, ne-eqb unit 100 u, le-ltb v 10000 l); text-is = rw (sym e ∙ h, ne-eqb unit 100 u, le-ltb v 10000 l, whole); cut-most = λ o. o; cut-few = omega arith; mark-most = omega arith; size-most = omega arith }
 
 -- ---- without the last digits
 
