@@ -1,7 +1,7 @@
 -- The lines of an input (document 01, "Day lines": the program's lines end in a line feed, the last may lack it). Assumes nothing.
 use Prim.Native.Nat.{ℕ, suc, _+_}
 use mathlib.Core.List.{List, [], _∷_, _++_}
-use mathlib.Core.Bool.{Bool, _&&_}
+use mathlib.Core.Bool.{Bool, true, false, _&&_}
 use lib.Dec.{eqb, ltb}
 use lib.ListN.{length, drop, getD}
 use Rattle.text.specs.Pick.{pick}
@@ -45,3 +45,12 @@ lastLine (c ∷ s) = (c ∷ s) ∷ []
 -- a piece that a line feed ends is a line, even an empty one; no byte, no line
 unfoldable pub linesOf : List ℕ → List (List ℕ)
 linesOf s = cut s .ended ++ lastLine (cut s .rest)
+
+-- the lines of an input that came to its end, or (`false`) of one that broke off: then only those that a line feed ends
+unfoldable pub linesBy : Bool → List ℕ → List (List ℕ)
+linesBy true s = linesOf s
+linesBy false s = cut s .ended
+
+-- what follows the first line feed; nothing, where there is none
+unfoldable pub pastLine : List ℕ → List ℕ
+pastLine s = drop (suc (lineLength s)) s

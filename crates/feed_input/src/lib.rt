@@ -1,96 +1,113 @@
-// Day lines on standard input, in blocks: where a program stands in its block, more read behind what is left of it, and lines
-// passed over that are longer than a block. The day program and those that tell its facts and reasons share it.
-use rules::Settings;
+// Where a program stands in its input, which it reads in blocks. No input or output here: a program reads behind what is held
+// and hands on the answer as the system gave it.
+//
+//     take_in   the answer of a read: bytes came, the input is at its end, or the read failed
+//     go_on     so many bytes are used; where a read comes next, what is left of them goes to the block's front
 ghost use mathlib.Core.Path.{_≡_};
-ghost use Prim.Native.Nat.{_+_, _-_, _<_};
+ghost use Prim.Native.Nat.{_+_, _≤_, min};
 ghost use lib.ListN.{length};
-ghost use Rattle.feed_input.specs.State.{opening, over, goneOn, allTaken, Within, More, Passed};
+ghost use Rattle.text.specs.Put.{put};
+ghost use Rattle.feed_input.specs.Place.{opening, cameOf, isFailure, takenIn, heldFrom, frontFrom, GoesOn};
 
-// The settings, the number of the next line, the part of the block that is read and not yet used, whether a line longer than
-// the block is being passed over, and whether there is more to read.
-pub struct State {
-    pub settings: Settings,
-    pub number: u64,
+// The bytes of the block from `at` to `have` are held: read, and not yet used. `asks`: a read comes next. `ended`: nothing more
+// comes, since the input is at its end or, `failed`, since a read failed.
+pub struct Place {
     pub at: usize,
     pub have: usize,
-    pub passing: bool,
-    pub going: bool,
+    pub asks: bool,
+    pub ended: bool,
+    pub failed: bool,
 }
 
-pub fn started() -> State
+pub fn opened() -> Place
     ensures { λ r. ⌜ r ≡ opening ⌝ }
 {
-    State {
-        settings: engine::fresh(),
-        number: 1,
+    Place {
         at: 0,
         have: 0,
-        passing: false,
-        going: true,
+        asks: true,
+        ended: false,
+        failed: false,
     }
 }
 
-// Nothing more is read, used or written.
-pub fn stopped(s: State) -> State
-    ensures { λ r. ⌜ r ≡ over s ⌝ }
+fn least(a: usize, b: usize) -> usize
+    ensures { λ r. ⌜ r ≡ min a b ⌝ }
 {
-    let mut r = s;
-    r.at = 0;
-    r.have = 0;
-    r.going = false;
-    r
+    if a < b { a } else { b }
 }
 
-// After lines of the block: the settings, the number of the next line, and the place behind them.
-pub fn gone_on(s: State, settings: Settings, number: u64, at: usize) -> State
-    ensures { λ r. ⌜ r ≡ goneOn s settings number at ⌝ }
+// How many bytes came, where there was room for so many.
+fn came(answer: isize, room: usize) -> usize
+    ensures { λ r. ⌜ r ≡ cameOf answer room ⌝ }
 {
-    let mut r = s;
-    r.settings = settings;
-    r.number = number;
-    r.at = at;
-    r
-}
-
-// After all that is left was taken as one line: the last line, or the first block of a longer one, whose rest is passed over.
-pub fn all_taken(s: State, settings: Settings, number: u64) -> State
-    ensures { λ r. ⌜ r ≡ allTaken s settings number ⌝ }
-{
-    let have = s.have;
-    let mut r = gone_on(s, settings, number, have);
-    r.passing = true;
-    r
-}
-
-// More of the input, behind what is not yet used; a short read is no end.
-pub fn read_more(s: State, block: &mut [u8]) -> State
-    requires { ⌜ Within s (length (now block)) × (s .have - s .at < length (now block)) ⌝ }
-    ensures { λ r. ⌜ More s (now (block .entry)) r (now (block .exit)) ⌝ }
-{
-    let at = s.at;
-    let have = s.have;
-    let n = feed_refill::read_behind(block, at, have);
-    let mut r = s;
-    r.at = 0;
-    r.have = n;
-    r.going = have - at < n;
-    r
-}
-
-// Passes over a line up to its line feed, or over all that is left of the block.
-pub fn pass(s: State, block: &mut [u8]) -> State
-    requires { ⌜ Within s (length (now block)) × (0 < length (now block)) ⌝ }
-    ensures { λ r. ⌜ Passed s (now (block .entry)) r (now (block .exit)) ⌝ }
-{
-    let at = s.at;
-    let have = s.have;
-    let end = feed_blocks::line_end(&block[..have], at);
-    let mut r = s;
-    if end < have {
-        r.at = end + 1;
-        r.passing = false;
-        return r;
+    if answer < 0 {
+        return 0;
     }
-    r.at = have;
-    read_more(r, block)
+    least(answer as usize, room)
+}
+
+fn is_failure(answer: isize) -> bool
+    ensures { λ r. ⌜ r ≡ isFailure answer ⌝ }
+{
+    answer < 0
+}
+
+// The answer of a read into the block behind what is held, where one was asked for. What is held is taken within the block.
+pub fn take_in(p: Place, answer: isize, size: usize) -> Place
+    ensures { λ r. ⌜ r ≡ takenIn p answer size ⌝ }
+{
+    let have = least(p.have, size);
+    let at = least(p.at, have);
+    if !p.asks {
+        return Place {
+            at: at,
+            have: have,
+            asks: false,
+            ended: p.ended,
+            failed: p.failed,
+        };
+    }
+    let n = came(answer, size - have);
+    Place {
+        at: at,
+        have: have + n,
+        asks: false,
+        ended: n == 0,
+        failed: is_failure(answer),
+    }
+}
+
+// What is held behind `at` goes to the front.
+fn to_front(p: Place, at: usize, block: &mut [u8]) -> Place
+    requires { ⌜ (at ≤ p .have) × (p .have ≤ length (now block)) ⌝ }
+    ensures { λ r. ⌜ (r ≡ frontFrom p at) × (now (block .exit) ≡ put (heldFrom p at (now (block .entry))) (now (block .entry))) ⌝ }
+{
+    let have = p.have;
+    let n = feed_blocks::move_front(&mut block[..have], at);
+    Place {
+        at: 0,
+        have: n,
+        asks: true,
+        ended: p.ended,
+        failed: p.failed,
+    }
+}
+
+// After a step that used `n` of the held bytes; `reads` is whether a read comes next.
+pub fn go_on(p: Place, n: usize, reads: bool, block: &mut [u8]) -> Place
+    requires { ⌜ (p .at + n ≤ p .have) × (p .have ≤ length (now block)) ⌝ }
+    ensures { λ r. ⌜ GoesOn reads p n (now (block .entry)) (now (block .exit)) r ⌝ }
+{
+    let at = p.at + n;
+    if reads {
+        return to_front(p, at, block);
+    }
+    Place {
+        at: at,
+        have: p.have,
+        asks: false,
+        ended: p.ended,
+        failed: p.failed,
+    }
 }

@@ -1,8 +1,8 @@
 use Rattle.text.proofs.Parts.{counted}
-use Rattle.feed_refill.proofs.Laws.{fronted, front-is}
+use Rattle.feed_input.proofs.Places.{front-place, front-block}
 use borrow.Author.Needs.{needs}
-use Rattle.feed_refill.proofs.to_front.Statement.{statement}
-use Rattle.feed_refill.proofs.to_front.Tie as tie
+use Rattle.feed_input.proofs.to_front.Statement.{statement}
+use Rattle.feed_input.proofs.to_front.Tie as tie
 
 slice-relend-prefix-move-front : tie.Need-slice-relend-prefix-move-front
 slice-relend-prefix-move-front c = search needs
@@ -17,7 +17,7 @@ same-length : tie.Need-same-length
 same-length c = search needs
 
 returns : tie.Need-returns
-returns c = (search fronted, search front-is)
+returns c = (search front-place, search front-block)
 
 pub to-front-spec : {M : Type 1} → statement M
 to-front-spec =
