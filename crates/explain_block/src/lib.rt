@@ -2,27 +2,19 @@
 // and its explanation is gathered in a lent block. A call is lent a tape of LONGEST_PRINT bytes.
 use call_table::Names;
 use call_table::Table;
+use feed_gather::Fed;
+use feed_gather::Told;
 use rules::LONGEST_PRINT;
 use rules::Settings;
+ghost use mathlib.Core.Path.{_≡_};
 ghost use mathlib.Core.List.{[], _∷_};
-ghost use Prim.Native.Nat.{_-_, _≤_};
+ghost use Prim.Native.Nat.{_+_, _-_, _≤_};
 ghost use lib.ListN.{length, take, drop};
-ghost use Rattle.explain_block.specs.Explains.{Explains, started, linesExplained, blockExplained, Stands, Steps};
+ghost use Rattle.feed_gather.specs.Gather.{lastLine, started, roomLeft, linesTaken, blockTaken, Stands, Tells, Steps};
+ghost use Rattle.explain_block.specs.Explains.{explainProgram, explanationRoom};
 
-// A call's settings, and how many bytes its explanation's line has.
-struct Step {
-    settings: Settings,
-    count: usize,
-}
-
-// Where the reading of a block stands: the settings, the number of the next line, the bytes of the block that are read, the
-// bytes in the lent text.
-pub struct Told {
-    pub settings: Settings,
-    pub number: u64,
-    pub at: usize,
-    pub text: usize,
-}
+// Any explanation has room in it.
+pub const EXPLANATION_ROOM: usize = 238;
 
 // One call, and the line of its explanation at the start of `rest`.
 fn take_explained(
@@ -32,9 +24,9 @@ fn take_explained(
     names: &mut Names,
     line: &[u8],
     rest: &mut [u8],
-) -> Step
-    requires { ⌜ (238 ≤ length (now rest)) × (number ≤ 9999999999) ⌝ }
-    ensures { λ r. ⌜ Explains st number (now (table .entry)) (now (names .entry)) (now (line .entry)) (now (rest .entry)) (now (table .exit)) (now (names .exit)) (now (rest .exit)) r ⌝ }
+) -> Told
+    requires { ⌜ (explanationRoom ≤ length (now rest)) × (number ≤ lastLine) ⌝ }
+    ensures { λ r. ⌜ Tells explainProgram st (now (table .entry)) (now (names .entry)) number (now (line .entry)) (now (rest .entry)) (now (table .exit)) (now (names .exit)) (now (rest .exit)) r ⌝ }
 {
     // as slices the tables tell their sizes
     let _rows = &table[..];
@@ -44,7 +36,7 @@ fn take_explained(
     let a = engine::take_line(st, table, names, line, &mut tape);
     let settings = a.settings;
     let k = explain_text::write_explanation(rest, number, e);
-    Step {
+    Told {
         settings: settings,
         count: k,
     }
@@ -52,32 +44,41 @@ fn take_explained(
 
 // The line from where the reading stands up to `end`.
 fn explain_part(
-    s: Told,
+    f: Fed,
     table: &mut Table,
     names: &mut Names,
     block: &[u8],
     end: usize,
     text: &mut [u8],
-) -> Told
-    requires { ⌜ (s .at ≤ end) × (end ≤ length (now block)) × (238 ≤ length (now text) - s .text) × (s .number ≤ 9999999999) ⌝ }
-    ensures { λ r. ⌜ Steps (take (end - s .at) (drop (s .at) (now (block .entry)))) (now (table .entry)) (now (names .entry)) (now (text .entry)) s (now (table .exit)) (now (names .exit)) (now (text .exit)) r ⌝ }
+) -> Fed
+    requires { ⌜ (f .at ≤ end) × (end ≤ length (now block)) × (explanationRoom ≤ length (now text) - f .out) × (f .number ≤ lastLine) ⌝ }
+    ensures { λ r. ⌜ Steps explainProgram (take (end - f .at) (drop (f .at) (now (block .entry)))) (now (table .entry)) (now (names .entry)) (now (text .entry)) [] f (now (table .exit)) (now (names .exit)) (now (text .exit)) [] r × (r .at ≡ end + 1) ⌝ }
 {
     let next = end + 1;
-    let at = s.at;
-    let n = s.text;
-    let st = s.settings;
-    let t = take_explained(st, s.number, table, names, &block[at..end], &mut text[n..]);
+    let at = f.at;
+    let n = f.out;
+    let st = f.settings;
+    let t = take_explained(st, f.number, table, names, &block[at..end], &mut text[n..]);
     let settings = t.settings;
-    Told {
+    Fed {
         settings: settings,
-        number: s.number + 1,
+        number: f.number + 1,
         at: next,
-        text: n + t.count,
+        out: n + t.count,
+        err: f.err,
     }
 }
 
-// Each line of the block that a line feed ends, as long as 238 bytes are left of the lent text and the line's number is at
-// most 9,999,999,999.
+// Room for any explanation, and a line number that is not past the last.
+fn room_left(f: Fed, text: usize) -> bool
+    requires { ⌜ (f .out ≤ text) × (f .err ≤ 0) ⌝ }
+    ensures { λ r. ⌜ r ≡ roomLeft explainProgram text 0 (f .out) (f .err) (f .number) ⌝ }
+{
+    feed_gather::room_left(f, text, 0, EXPLANATION_ROOM, 0)
+}
+
+// Each line of the block that a line feed ends, as long as EXPLANATION_ROOM bytes are left of the lent text and the line's number is
+// not past the last.
 pub fn explain_lines(
     settings: Settings,
     number: u64,
@@ -85,28 +86,28 @@ pub fn explain_lines(
     names: &mut Names,
     block: &[u8],
     text: &mut [u8],
-) -> Told
-    ensures { λ r. ⌜ Stands (now (text .entry)) (blockExplained (length (now (text .entry))) (now (block .entry)) (started settings (now (table .entry)) (now (names .entry)) number)) (now (table .exit)) (now (names .exit)) (now (text .exit)) r ⌝ }
+) -> Fed
+    ensures { λ r. ⌜ Stands (now (text .entry)) [] (blockTaken explainProgram (length (now (text .entry))) 0 (now (block .entry)) (started settings (now (table .entry)) (now (names .entry)) number)) (now (table .exit)) (now (names .exit)) (now (text .exit)) [] r ⌝ }
 {
-    let mut s = Told {
+    let mut f = Fed {
         settings: settings,
         number: number,
         at: 0,
-        text: 0,
+        out: 0,
+        err: 0,
     };
-    let mut end = feed_blocks::line_end(block, 0);
-    while end < block.len() {
-        if text.len() - s.text < 238 {
-            return s;
+    while f.at < block.len() {
+        let at = f.at;
+        let end = feed_blocks::line_end(block, at);
+        if block.len() <= end {
+            return f;
         }
-        if 9999999999 < s.number {
-            return s;
+        if !room_left(f, text.len()) {
+            return f;
         }
-        s = explain_part(s, table, names, block, end, text);
-        let at = s.at;
-        end = feed_blocks::line_end(block, at);
+        f = explain_part(f, table, names, block, end, text);
     }
-    s
+    f
 }
 
 // One line that no line feed ends.
@@ -117,21 +118,19 @@ pub fn explain_last(
     names: &mut Names,
     line: &[u8],
     text: &mut [u8],
-) -> Told
-    ensures { λ r. ⌜ Stands (now (text .entry)) (linesExplained (length (now (text .entry))) (now (line .entry) ∷ []) (started settings (now (table .entry)) (now (names .entry)) number)) (now (table .exit)) (now (names .exit)) (now (text .exit)) r ⌝ }
+) -> Fed
+    ensures { λ r. ⌜ Stands (now (text .entry)) [] (linesTaken explainProgram (length (now (text .entry))) 0 (now (line .entry) ∷ []) (started settings (now (table .entry)) (now (names .entry)) number)) (now (table .exit)) (now (names .exit)) (now (text .exit)) [] r ⌝ }
 {
-    let s = Told {
+    let f = Fed {
         settings: settings,
         number: number,
         at: 0,
-        text: 0,
+        out: 0,
+        err: 0,
     };
-    if text.len() < 238 {
-        return s;
-    }
-    if 9999999999 < number {
-        return s;
+    if !room_left(f, text.len()) {
+        return f;
     }
     let end = line.len();
-    explain_part(s, table, names, line, end, text)
+    explain_part(f, table, names, line, end, text)
 }

@@ -27,9 +27,8 @@ use Rattle.facts_entry.specs.declared.Entry.{Entry}
 use Rattle.facts_entry.proofs.Agree.{short-shown}
 use Rattle.facts_line.specs.Lines.{lineOf}
 use Rattle.facts_line.proofs.Short.{entry-short}
-use Rattle.facts_block.specs.Shows.{Shows, Progress, lineShown, Stands, Steps, factRoom}
-use Rattle.facts_block.specs.declared.Told.{Told}
-use Rattle.facts_block.specs.declared.Shown.{Shown}
+use Rattle.feed_gather.specs.Gather.{Tells}
+use Rattle.facts_block.specs.Shows.{factsProgram, factRoom}
 
 -- ---- the call: lent a tape of `longestPrint` bytes, `n` of them printed
 
@@ -67,24 +66,12 @@ module _ (st : Settings) (table names line tape table′ names′ tape′ : List
       entry-room m z l =
           omega (arith, entry-short (take n tape′) e (shownBy day (ample line)) entry-is (short-shown st table names line longestPrint rows places), count-taken longestPrint z, count-fits longestPrint z)
 
-      pub call-shown : (rest rest′ : List ℕ) (k : ℕ) → Written (lineOf (factIn (take n tape′) e)) rest rest′ k
-          → Shows st table names line rest table′ names′ rest′ (record { settings = a .settings; count = k })
-      call-shown rest rest′ k w = record { line-is = rw (← entry-is) w; day-is = held .1 }
-
--- ---- the line from where the reading stands
-
-module _ (s : Shown) (block table names facts table′ names′ ys : List ℕ) (t : Told) (end : ℕ) where
-  pub line-stands : Shows (s .settings) table names (take (end - s .at) (drop (s .at) block)) (take (length facts - s .facts) (drop (s .facts) facts)) table′ names′ ys t
-      → s .at ≤ end → end ≤ length block
-      → Steps (take (end - s .at) (drop (s .at) block)) table names facts s table′ names′
-      (take (s .facts) facts ++ (ys ++ drop (length facts - s .facts) (drop (s .facts) facts)))
-      (record { settings = t .settings; at = end + 1; facts = s .facts + t .count })
-  unfolding lineShown
-  line-stands w l m facts₀ p h =
-      let line : List ℕ = take (end - s .at) (drop (s .at) block) in
-      let e : end ≡ s .at + length line = omega (arith, length-take (end - s .at) (drop (s .at) block), length-drop (s .at) block) in
-      record {
-        day-is = w .day-is ∙ ap (λ (d : Day). after d (ample line)) (h .day-is);
-        at-is = omega (arith, e, h .at-is);
-        facts-is = rw (← h .day-is) (then (h .facts-is) (w .line-is));
-      }
+      pub call-shown : (number : ℕ) (rest rest′ : List ℕ) (k : ℕ) → Written (lineOf (factIn (take n tape′) e)) rest rest′ k
+          → Tells factsProgram st table names number line rest table′ names′ rest′ (record { settings = a .settings; count = k })
+      call-shown number rest rest′ k w =
+          record {
+            settings-is = rw (← size) (t .settings);
+            table-is = rw (← size) (t .table-is);
+            names-is = rw (← size) (t .names-is);
+            out-is = rw (← entry-is) w;
+          }

@@ -1,4 +1,3 @@
 pub mod Calls
-pub mod Blocks
 pub mod Whole
-pub mod Fresh
+pub mod Lines

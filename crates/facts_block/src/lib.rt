@@ -2,31 +2,21 @@
 // its entry is gathered in a lent block. A call is lent a tape of LONGEST_PRINT bytes.
 use call_table::Names;
 use call_table::Table;
+use feed_gather::Fed;
+use feed_gather::Told;
 use rules::LONGEST_PRINT;
 use rules::Settings;
 ghost use mathlib.Core.Path.{_≡_};
 ghost use mathlib.Core.List.{[], _∷_};
-ghost use Prim.Native.Nat.{_-_, _≤_};
+ghost use Prim.Native.Nat.{_+_, _-_, _≤_};
 ghost use lib.ListN.{length, take, drop};
-ghost use Rattle.facts_block.specs.Shows.{Shows, started, linesShown, blockShown, Stands, Steps, factRoom};
-
-// A call's settings, and how many bytes its entry's line has.
-struct Told {
-    settings: Settings,
-    count: usize,
-}
+ghost use Rattle.feed_gather.specs.Gather.{lastLine, started, roomLeft, linesTaken, blockTaken, Stands, Tells, Steps};
+ghost use Rattle.facts_block.specs.Shows.{factsProgram, factRoom};
 
 // Any line of shown facts has room in it.
 pub const FACT_ROOM: usize = 186 + LONGEST_PRINT;
 
-// Where the reading of a block stands: the settings, the bytes of the block that are read, the bytes in the lent facts.
-pub struct Shown {
-    pub settings: Settings,
-    pub at: usize,
-    pub facts: usize,
-}
-
-// One call, and the line of its entry at the start of `rest`.
+// One call, and the line of its entry at the start of `rest`; it does not tell its number.
 fn take_shown(
     st: Settings,
     table: &mut Table,
@@ -35,7 +25,7 @@ fn take_shown(
     rest: &mut [u8],
 ) -> Told
     requires { ⌜ factRoom ≤ length (now rest) ⌝ }
-    ensures { λ r. ⌜ Shows st (now (table .entry)) (now (names .entry)) (now (line .entry)) (now (rest .entry)) (now (table .exit)) (now (names .exit)) (now (rest .exit)) r ⌝ }
+    ensures { λ r. ⌜ Tells factsProgram st (now (table .entry)) (now (names .entry)) 0 (now (line .entry)) (now (rest .entry)) (now (table .exit)) (now (names .exit)) (now (rest .exit)) r ⌝ }
 {
     // as slices the tables tell their sizes
     let _rows = &table[..];
@@ -55,74 +45,93 @@ fn take_shown(
 
 // The line from where the reading stands up to `end`.
 fn show_line(
-    s: Shown,
+    f: Fed,
     table: &mut Table,
     names: &mut Names,
     block: &[u8],
     end: usize,
     facts: &mut [u8],
-) -> Shown
-    requires { ⌜ (s .at ≤ end) × (end ≤ length (now block)) × (factRoom ≤ length (now facts) - s .facts) ⌝ }
-    ensures { λ r. ⌜ Steps (take (end - s .at) (drop (s .at) (now (block .entry)))) (now (table .entry)) (now (names .entry)) (now (facts .entry)) s (now (table .exit)) (now (names .exit)) (now (facts .exit)) r ⌝ }
+) -> Fed
+    requires { ⌜ (f .at ≤ end) × (end ≤ length (now block)) × (factRoom ≤ length (now facts) - f .out) × (f .number ≤ lastLine) ⌝ }
+    ensures { λ r. ⌜ Steps factsProgram (take (end - f .at) (drop (f .at) (now (block .entry)))) (now (table .entry)) (now (names .entry)) (now (facts .entry)) [] f (now (table .exit)) (now (names .exit)) (now (facts .exit)) [] r × (r .at ≡ end + 1) ⌝ }
 {
     let next = end + 1;
-    let at = s.at;
-    let n = s.facts;
-    let st = s.settings;
+    let at = f.at;
+    let n = f.out;
+    let st = f.settings;
     let t = take_shown(st, table, names, &block[at..end], &mut facts[n..]);
     let settings = t.settings;
-    Shown {
+    Fed {
         settings: settings,
+        number: f.number + 1,
         at: next,
-        facts: n + t.count,
+        out: n + t.count,
+        err: f.err,
     }
 }
 
-// Each line of the block that a line feed ends, as long as FACT_ROOM bytes are left of the lent facts.
+// Room for any line of shown facts, and a line number that is not past the last.
+fn room_left(f: Fed, facts: usize) -> bool
+    requires { ⌜ (f .out ≤ facts) × (f .err ≤ 0) ⌝ }
+    ensures { λ r. ⌜ r ≡ roomLeft factsProgram facts 0 (f .out) (f .err) (f .number) ⌝ }
+{
+    feed_gather::room_left(f, facts, 0, FACT_ROOM, 0)
+}
+
+// Each line of the block that a line feed ends, as long as FACT_ROOM bytes are left of the lent facts and the line's number is
+// not past the last.
 pub fn show_lines(
     settings: Settings,
+    number: u64,
     table: &mut Table,
     names: &mut Names,
     block: &[u8],
     facts: &mut [u8],
-) -> Shown
-    ensures { λ r. ⌜ Stands (now (facts .entry)) (blockShown (length (now (facts .entry))) (now (block .entry)) (started settings (now (table .entry)) (now (names .entry)))) (now (table .exit)) (now (names .exit)) (now (facts .exit)) r ⌝ }
+) -> Fed
+    ensures { λ r. ⌜ Stands (now (facts .entry)) [] (blockTaken factsProgram (length (now (facts .entry))) 0 (now (block .entry)) (started settings (now (table .entry)) (now (names .entry)) number)) (now (table .exit)) (now (names .exit)) (now (facts .exit)) [] r ⌝ }
 {
-    let mut s = Shown {
+    let mut f = Fed {
         settings: settings,
+        number: number,
         at: 0,
-        facts: 0,
+        out: 0,
+        err: 0,
     };
-    let mut end = feed_blocks::line_end(block, 0);
-    while end < block.len() {
-        if facts.len() - s.facts < FACT_ROOM {
-            return s;
+    while f.at < block.len() {
+        let at = f.at;
+        let end = feed_blocks::line_end(block, at);
+        if block.len() <= end {
+            return f;
         }
-        s = show_line(s, table, names, block, end, facts);
-        let at = s.at;
-        end = feed_blocks::line_end(block, at);
+        if !room_left(f, facts.len()) {
+            return f;
+        }
+        f = show_line(f, table, names, block, end, facts);
     }
-    s
+    f
 }
 
 // One line that no line feed ends.
 pub fn show_last(
     settings: Settings,
+    number: u64,
     table: &mut Table,
     names: &mut Names,
     line: &[u8],
     facts: &mut [u8],
-) -> Shown
-    ensures { λ r. ⌜ Stands (now (facts .entry)) (linesShown (length (now (facts .entry))) (now (line .entry) ∷ []) (started settings (now (table .entry)) (now (names .entry)))) (now (table .exit)) (now (names .exit)) (now (facts .exit)) r ⌝ }
+) -> Fed
+    ensures { λ r. ⌜ Stands (now (facts .entry)) [] (linesTaken factsProgram (length (now (facts .entry))) 0 (now (line .entry) ∷ []) (started settings (now (table .entry)) (now (names .entry)) number)) (now (table .exit)) (now (names .exit)) (now (facts .exit)) [] r ⌝ }
 {
-    let s = Shown {
+    let f = Fed {
         settings: settings,
+        number: number,
         at: 0,
-        facts: 0,
+        out: 0,
+        err: 0,
     };
-    if facts.len() < FACT_ROOM {
-        return s;
+    if !room_left(f, facts.len()) {
+        return f;
     }
     let end = line.len();
-    show_line(s, table, names, line, end, facts)
+    show_line(f, table, names, line, end, facts)
 }

@@ -1,6 +1,4 @@
 pub mod Told
 pub mod Steps
-pub mod Blocks
 pub mod Runs
-pub mod Whole
-pub mod Long
+pub mod Blocks

@@ -22,8 +22,9 @@ use Rattle.engine.specs.declared.Answer.{Answer}
 use Rattle.call_print.specs.Print.{printedName, textOf, fittedOf, printOf}
 use Rattle.engine.specs.Taken.{asked, outcomeOf, Taken, countOf}
 use Rattle.call_state.specs.After.{settingsAfter, tableAfter, namesAfter}
-use Rattle.feed_lines.specs.Feed.{Progress, told, carried, lineTaken, Stands, Steps}
-use Rattle.feed_lines.specs.declared.Fed.{Fed}
+use Rattle.feed_gather.specs.Gather.{Progress, carried, lineTaken, Stands, Steps}
+use Rattle.feed_lines.specs.Feed.{told, dayProgram}
+use Rattle.feed_gather.specs.declared.Fed.{Fed}
 
 -- a print fits the tape that was lent for it
 print-fits : (st : Settings) (table names line : List ℕ) (room : ℕ) → length (printOf st names (asked st table names line room)) ≤ room
@@ -56,24 +57,24 @@ pub told-adds : (text xs zs : List ℕ) (at k : ℕ) → Written text (take (len
 told-adds text xs zs at k w l h = record { fits = omega (arith, w .within, length-take (length xs - at) (drop at xs), length-drop at xs) }
 
 module _ (f : Fed) (block table names tape refusals table′ names′ ys zs : List ℕ) (a : Answer) (end n k : ℕ) where
-  pub line-fed : Taken (f .settings) table names (take (end - f .at) (drop (f .at) block)) (take (length tape - f .tape) (drop (f .tape) tape)) table′ names′ ys a
+  pub line-fed : Taken (f .settings) table names (take (end - f .at) (drop (f .at) block)) (take (length tape - f .out) (drop (f .out) tape)) table′ names′ ys a
       → n ≡ countOf (a .outcome)
-      → Written (told (f .number) (a .outcome)) (take (length refusals - f .refusals) (drop (f .refusals) refusals)) zs k
+      → Written (told (f .number) (a .outcome)) (take (length refusals - f .err) (drop (f .err) refusals)) zs k
       → f .at ≤ end → end ≤ length block
-      → Steps (take (end - f .at) (drop (f .at) block)) table names tape refusals f table′ names′
-      (take (f .tape) tape ++ (ys ++ drop (length tape - f .tape) (drop (f .tape) tape)))
-      (take (f .refusals) refusals ++ (zs ++ drop (length refusals - f .refusals) (drop (f .refusals) refusals)))
-      (record { settings = a .settings; number = f .number + 1; at = end + 1; tape = f .tape + n; refusals = f .refusals + k })
+      → Steps dayProgram (take (end - f .at) (drop (f .at) block)) table names tape refusals f table′ names′
+      (take (f .out) tape ++ (ys ++ drop (length tape - f .out) (drop (f .out) tape)))
+      (take (f .err) refusals ++ (zs ++ drop (length refusals - f .err) (drop (f .err) refusals)))
+      (record { settings = a .settings; number = f .number + 1; at = end + 1; out = f .out + n; err = f .err + k })
   unfolding lineTaken carried
   line-fed t c w l m tape₀ refusals₀ p s =
       let line : List ℕ = take (end - f .at) (drop (f .at) block) in
       let e : end ≡ f .at + length line = omega (arith, length-take (end - f .at) (drop (f .at) block), length-drop (f .at) block) in
-      let lent : List ℕ = take (length tape - f .tape) (drop (f .tape) tape) in
-      let whole : length tape ≡ length tape₀ = ap length (s .tape-is .tape) ∙ length-put (p .tape) tape₀ (omega (arith, s .tape-is .count-is, s .tape-is .within)) in
-      let room : length lent ≡ length tape₀ - length (p .tape) = simp (length-take, length-drop) (omega (arith, s .tape-is .count-is)) in
+      let lent : List ℕ = take (length tape - f .out) (drop (f .out) tape) in
+      let whole : length tape ≡ length tape₀ = ap length (s .out-is .tape) ∙ length-put (p .out) tape₀ (omega (arith, s .out-is .count-is, s .out-is .within)) in
+      let room : length lent ≡ length tape₀ - length (p .out) = simp (length-take, length-drop) (omega (arith, s .out-is .count-is)) in
       let q : Plan = asked (f .settings) table names line (length lent) in
       let print : List ℕ = printOf (f .settings) names q in
-      let is : q ≡ asked (p .settings) (p .table) (p .names) line (length tape₀ - length (p .tape)) = cc in
+      let is : q ≡ asked (p .settings) (p .table) (p .names) line (length tape₀ - length (p .out)) = cc in
       let count : n ≡ length print = c ∙ t .count-is in
       let wrote : Written print lent ys n = record { tape = t .tape-is; count-is = count; within = omega (arith, print-fits (f .settings) table names line (length lent)) } in
       record {
@@ -82,34 +83,34 @@ module _ (f : Fed) (block table names tape refusals table′ names′ ys zs : Li
         at-is = cc;
         table-is = t .table-is ∙ (cc);
         names-is = t .names-is ∙ (cc);
-        tape-is = named (cc) (then (s .tape-is) wrote);
-        refusals-is = named (cc) (then (s .refusals-is) w);
+        out-is = named (cc) (then (s .out-is) wrote);
+        err-is = named (cc) (then (s .err-is) w);
       }
 
 -- and where the line leaves the reading
 module _ (f : Fed) (block table names tape refusals table′ names′ ys zs : List ℕ) (a : Answer) (end n k : ℕ) where
   abbrev tape′ : List ℕ
-  tape′ = take (f .tape) tape ++ (ys ++ drop (length tape - f .tape) (drop (f .tape) tape))
+  tape′ = take (f .out) tape ++ (ys ++ drop (length tape - f .out) (drop (f .out) tape))
 
   abbrev refusals′ : List ℕ
-  refusals′ = take (f .refusals) refusals ++ (zs ++ drop (length refusals - f .refusals) (drop (f .refusals) refusals))
+  refusals′ = take (f .err) refusals ++ (zs ++ drop (length refusals - f .err) (drop (f .err) refusals))
 
   abbrev next : Fed
-  next = record { settings = a .settings; number = f .number + 1; at = end + 1; tape = f .tape + n; refusals = f .refusals + k }
+  next = record { settings = a .settings; number = f .number + 1; at = end + 1; out = f .out + n; err = f .err + k }
 
-  pub line-gone : Taken (f .settings) table names (take (end - f .at) (drop (f .at) block)) (take (length tape - f .tape) (drop (f .tape) tape)) table′ names′ ys a
+  pub line-gone : Taken (f .settings) table names (take (end - f .at) (drop (f .at) block)) (take (length tape - f .out) (drop (f .out) tape)) table′ names′ ys a
       → n ≡ countOf (a .outcome)
-      → Written (told (f .number) (a .outcome)) (take (length refusals - f .refusals) (drop (f .refusals) refusals)) zs k
-      → f .at ≤ end → end ≤ length block → f .tape ≤ length tape → 14 ≤ length refusals - f .refusals
-      → Steps (take (end - f .at) (drop (f .at) block)) table names tape refusals f table′ names′ tape′ refusals′ next × (end + 1 ≡ end + 1) × (f .tape + n ≤ length tape′) × (f .refusals + k ≤ length refusals′)
+      → Written (told (f .number) (a .outcome)) (take (length refusals - f .err) (drop (f .err) refusals)) zs k
+      → f .at ≤ end → end ≤ length block → f .out ≤ length tape → 14 ≤ length refusals - f .err
+      → Steps dayProgram (take (end - f .at) (drop (f .at) block)) table names tape refusals f table′ names′ tape′ refusals′ next × (end + 1 ≡ end + 1) × (f .out + n ≤ length tape′) × (f .err + k ≤ length refusals′)
   line-gone t c w l m lt lr =
-      let lent : List ℕ = take (length tape - f .tape) (drop (f .tape) tape) in
-      let free : List ℕ = take (length refusals - f .refusals) (drop (f .refusals) refusals) in
+      let lent : List ℕ = take (length tape - f .out) (drop (f .out) tape) in
+      let free : List ℕ = take (length refusals - f .err) (drop (f .err) refusals) in
       let size : length zs ≡ length free = ap length (w .tape) ∙ length-put (told (f .number) (a .outcome)) free (omega (arith, w .count-is, w .within)) in
       let fits = taken-fits (f .settings) table names (take (end - f .at) (drop (f .at) block)) lent table′ names′ ys a t in
       let same = taken-size (f .settings) table names (take (end - f .at) (drop (f .at) block)) lent table′ names′ ys a t in (
         line-fed f block table names tape refusals table′ names′ ys zs a end n k t c w l m,
         refl,
-        simp (length-append, length-take, length-drop) (omega (arith, fits, same, length-take (length tape - f .tape) (drop (f .tape) tape), length-drop (f .tape) tape)),
-        simp (length-append, length-take, length-drop) (omega (arith, size, w .within, length-take (length refusals - f .refusals) (drop (f .refusals) refusals), length-drop (f .refusals) refusals)),
+        simp (length-append, length-take, length-drop) (omega (arith, fits, same, length-take (length tape - f .out) (drop (f .out) tape), length-drop (f .out) tape)),
+        simp (length-append, length-take, length-drop) (omega (arith, size, w .within, length-take (length refusals - f .err) (drop (f .err) refusals), length-drop (f .err) refusals)),
       )

@@ -3,6 +3,7 @@
 use call_table::Names;
 use call_table::Table;
 use engine::Outcome;
+use feed_gather::Fed;
 use rules::LONGEST_PRINT;
 use rules::Settings;
 use rules::WIDTH;
@@ -12,17 +13,8 @@ ghost use Prim.Native.Nat.{_+_, _-_, _≤_};
 ghost use lib.ListN.{length, take, drop};
 ghost use Rattle.text.specs.Put.{Written};
 ghost use Rattle.feed_lines.specs.Refusals.{refusalLine};
-ghost use Rattle.feed_lines.specs.Feed.{started, told, roomLeft, linesTaken, blockTaken, endsLine, Stands, Steps, Runs};
-
-// Where the reading of a block stands: the settings, the number of the next line, the bytes of the block that are read,
-// the bytes on the lent tape and in the lent refusals.
-pub struct Fed {
-    pub settings: Settings,
-    pub number: u64,
-    pub at: usize,
-    pub tape: usize,
-    pub refusals: usize,
-}
+ghost use Rattle.feed_gather.specs.Gather.{lastLine, roomLeft, started, linesTaken, blockTaken, Stands, Steps};
+ghost use Rattle.feed_lines.specs.Feed.{told, dayProgram, endsLine, Runs};
 
 // ---- refusals
 
@@ -50,18 +42,15 @@ fn write_told(rest: &mut [u8], number: u64, o: Outcome) -> usize
 
 // ---- one line
 
+// A refusal's line.
+const TOLD: usize = 14;
+
 // Room for any print (crate claim_daytape: none is longer than LONGEST_PRINT bytes) and a refusal, and a line number that is not past the last.
 fn room_left(f: Fed, tape: usize, refusals: usize) -> bool
-    requires { ⌜ (f .tape ≤ tape) × (f .refusals ≤ refusals) ⌝ }
-    ensures { λ r. ⌜ r ≡ roomLeft tape refusals (f .tape) (f .refusals) (f .number) ⌝ }
+    requires { ⌜ (f .out ≤ tape) × (f .err ≤ refusals) ⌝ }
+    ensures { λ r. ⌜ r ≡ roomLeft dayProgram tape refusals (f .out) (f .err) (f .number) ⌝ }
 {
-    if tape - f.tape < LONGEST_PRINT {
-        return false;
-    }
-    if refusals - f.refusals < 14 {
-        return false;
-    }
-    f.number <= 9999999999
+    feed_gather::room_left(f, tape, refusals, LONGEST_PRINT, TOLD)
 }
 
 // The line from where the reading stands up to `end`, one that `feed_trades` left.
@@ -74,13 +63,13 @@ fn feed_line(
     tape: &mut [u8],
     refusals: &mut [u8],
 ) -> Fed
-    requires { ⌜ (f .at ≤ end) × (end ≤ length (now block)) × (f .tape ≤ length (now tape)) × (14 ≤ length (now refusals) - f .refusals) × (f .number ≤ 9999999999) ⌝ }
-    ensures { λ r. ⌜ Steps (take (end - f .at) (drop (f .at) (now (block .entry)))) (now (table .entry)) (now (names .entry)) (now (tape .entry)) (now (refusals .entry)) f (now (table .exit)) (now (names .exit)) (now (tape .exit)) (now (refusals .exit)) r × (r .at ≡ end + 1) × (r .tape ≤ length (now (tape .exit))) × (r .refusals ≤ length (now (refusals .exit))) ⌝ }
+    requires { ⌜ (f .at ≤ end) × (end ≤ length (now block)) × (f .out ≤ length (now tape)) × (14 ≤ length (now refusals) - f .err) × (f .number ≤ lastLine) ⌝ }
+    ensures { λ r. ⌜ Steps dayProgram (take (end - f .at) (drop (f .at) (now (block .entry)))) (now (table .entry)) (now (names .entry)) (now (tape .entry)) (now (refusals .entry)) f (now (table .exit)) (now (names .exit)) (now (tape .exit)) (now (refusals .exit)) r × (r .at ≡ end + 1) × (r .out ≤ length (now (tape .exit))) × (r .err ≤ length (now (refusals .exit))) ⌝ }
 {
     let next = end + 1;
     let at = f.at;
-    let n = f.tape;
-    let k = f.refusals;
+    let n = f.out;
+    let k = f.err;
     let st = f.settings;
     let a = engine::take_by_plan(st, table, names, &block[at..end], &mut tape[n..]);
     let settings = a.settings;
@@ -91,8 +80,8 @@ fn feed_line(
         settings: settings,
         number: f.number + 1,
         at: next,
-        tape: on_tape,
-        refusals: in_refusals,
+        out: on_tape,
+        err: in_refusals,
     }
 }
 
@@ -117,7 +106,7 @@ fn feed_trades(
     tape: &mut [u8],
     refusals: &[u8],
 ) -> Fed
-    requires { ⌜ (f .at ≤ length (now block)) × (f .tape ≤ length (now tape)) × (f .refusals ≤ length (now refusals)) ⌝ }
+    requires { ⌜ (f .at ≤ length (now block)) × (f .out ≤ length (now tape)) × (f .err ≤ length (now refusals)) ⌝ }
     ensures { λ r. ⌜ Runs last (now (block .entry)) (now (names .entry)) (now (refusals .entry)) (now (table .entry)) (now (tape .entry)) f (now (table .exit)) (now (tape .exit)) r ⌝ }
 {
     let st = f.settings;
@@ -128,14 +117,14 @@ fn feed_trades(
         if !ends_line(block, end, last) {
             return r;
         }
-        let n = r.tape;
+        let n = r.out;
         let p = engine::take_trade(st, table, names, &block[at..end], &mut tape[n..]);
         if !p.taken {
             return r;
         }
         r.number = r.number + 1;
         r.at = end + 1;
-        r.tape = n + p.length;
+        r.out = n + p.length;
     }
     r
 }
@@ -153,14 +142,14 @@ pub fn feed(
     tape: &mut [u8],
     refusals: &mut [u8],
 ) -> Fed
-    ensures { λ r. ⌜ Stands (now (tape .entry)) (now (refusals .entry)) (blockTaken (length (now (tape .entry))) (length (now (refusals .entry))) (now (block .entry)) (started settings (now (table .entry)) (now (names .entry)) number)) (now (table .exit)) (now (names .exit)) (now (tape .exit)) (now (refusals .exit)) r ⌝ }
+    ensures { λ r. ⌜ Stands (now (tape .entry)) (now (refusals .entry)) (blockTaken dayProgram (length (now (tape .entry))) (length (now (refusals .entry))) (now (block .entry)) (started settings (now (table .entry)) (now (names .entry)) number)) (now (table .exit)) (now (names .exit)) (now (tape .exit)) (now (refusals .exit)) r ⌝ }
 {
     let mut f = Fed {
         settings: settings,
         number: number,
         at: 0,
-        tape: 0,
-        refusals: 0,
+        out: 0,
+        err: 0,
     };
     while f.at < block.len() {
         f = feed_trades(f, table, names, block, false, tape, refusals);
@@ -187,14 +176,14 @@ pub fn feed_last(
     tape: &mut [u8],
     refusals: &mut [u8],
 ) -> Fed
-    ensures { λ r. ⌜ Stands (now (tape .entry)) (now (refusals .entry)) (linesTaken (length (now (tape .entry))) (length (now (refusals .entry))) (now (line .entry) ∷ []) (started settings (now (table .entry)) (now (names .entry)) number)) (now (table .exit)) (now (names .exit)) (now (tape .exit)) (now (refusals .exit)) r ⌝ }
+    ensures { λ r. ⌜ Stands (now (tape .entry)) (now (refusals .entry)) (linesTaken dayProgram (length (now (tape .entry))) (length (now (refusals .entry))) (now (line .entry) ∷ []) (started settings (now (table .entry)) (now (names .entry)) number)) (now (table .exit)) (now (names .exit)) (now (tape .exit)) (now (refusals .exit)) r ⌝ }
 {
     let start = Fed {
         settings: settings,
         number: number,
         at: 0,
-        tape: 0,
-        refusals: 0,
+        out: 0,
+        err: 0,
     };
     let f = feed_trades(start, table, names, line, true, tape, refusals);
     let end = line.len();

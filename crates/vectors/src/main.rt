@@ -5,15 +5,16 @@ use call_table::NAMES_SIZE;
 use call_table::Names;
 use call_table::TABLE_SIZE;
 use call_table::Table;
-use facts_block::Shown;
-use feed_lines::Fed;
+use feed_gather::Fed;
 use libc::STDOUT_FILENO;
 ghost use mathlib.Core.Path.{_≡_};
 ghost use Prim.Native.Nat.{_≤_, _<_};
 ghost use lib.ListN.{length, take};
 ghost use Rattle.rules.specs.Day.{opened};
-ghost use Rattle.feed_lines.specs.Feed.{started, blockTaken, Stands};
-ghost use Rattle.facts_block.specs.Shows as shows;
+ghost use mathlib.Core.List.{[]};
+ghost use Rattle.feed_gather.specs.Gather.{started, blockTaken, Stands};
+ghost use Rattle.feed_lines.specs.Feed.{dayProgram};
+ghost use Rattle.facts_block.specs.Shows.{factsProgram};
 ghost use Rattle.vectors.specs.Names.{dayName};
 
 // The name of day n.
@@ -50,7 +51,7 @@ fn take_day(
     tape: &mut [u8],
     refusals: &mut [u8],
 ) -> Fed
-    ensures { λ r. ⌜ Stands (now (tape .entry)) (now (refusals .entry)) (blockTaken (length (now (tape .entry))) (length (now (refusals .entry))) (now (day .entry)) (started (opened 0) (now (table .entry)) (now (names .entry)) 1)) (now (table .exit)) (now (names .exit)) (now (tape .exit)) (now (refusals .exit)) r ⌝ }
+    ensures { λ r. ⌜ Stands (now (tape .entry)) (now (refusals .entry)) (blockTaken dayProgram (length (now (tape .entry))) (length (now (refusals .entry))) (now (day .entry)) (started (opened 0) (now (table .entry)) (now (names .entry)) 1)) (now (table .exit)) (now (names .exit)) (now (tape .exit)) (now (refusals .exit)) r ⌝ }
 {
     let settings = engine::fresh();
     feed_lines::feed(settings, 1, table, names, day, tape, refusals)
@@ -81,15 +82,15 @@ fn show_day(
     requires { ⌜ n ≤ length (now block) ⌝ }
 {
     let f = take_day(table, names, &block[..n], tape, refusals);
-    write_out(tape, f.tape, refusals, f.refusals)
+    write_out(tape, f.out, refusals, f.err)
 }
 
 // The lines of the day's shown facts, from a fresh state.
-fn take_facts(table: &mut Table, names: &mut Names, day: &[u8], facts: &mut [u8]) -> Shown
-    ensures { λ r. ⌜ shows.Stands (now (facts .entry)) (shows.blockShown (length (now (facts .entry))) (now (day .entry)) (shows.started (opened 0) (now (table .entry)) (now (names .entry)))) (now (table .exit)) (now (names .exit)) (now (facts .exit)) r ⌝ }
+fn take_facts(table: &mut Table, names: &mut Names, day: &[u8], facts: &mut [u8]) -> Fed
+    ensures { λ r. ⌜ Stands (now (facts .entry)) [] (blockTaken factsProgram (length (now (facts .entry))) 0 (now (day .entry)) (started (opened 0) (now (table .entry)) (now (names .entry)) 1)) (now (table .exit)) (now (names .exit)) (now (facts .exit)) [] r ⌝ }
 {
     let settings = engine::fresh();
-    facts_block::show_lines(settings, table, names, day, facts)
+    facts_block::show_lines(settings, 1, table, names, day, facts)
 }
 
 // Writes them, of the day that the block's first n bytes are.
@@ -103,7 +104,7 @@ fn show_facts(
     requires { ⌜ n ≤ length (now block) ⌝ }
 {
     let s = take_facts(table, names, &block[..n], facts);
-    let k = s.facts;
+    let k = s.out;
     io::write_all(STDOUT_FILENO, &facts[..k])
 }
 

@@ -1,4 +1,4 @@
-use Rattle.explain_block.proofs.Calls.{text-adds, line-stands}
+use Rattle.explain_block.proofs.Lines.{explained-adds, line-explained}
 use borrow.Author.Needs.{needs}
 use Rattle.explain_block.proofs.explain_part.Statement.{statement}
 use Rattle.explain_block.proofs.explain_part.Tie as tie
@@ -31,13 +31,13 @@ add-t23 : tie.Need-add-t23
 add-t23 c = search needs
 
 add-t16 : tie.Need-add-t16
-add-t16 c = let g = c .before .before .before .before .before .before .before .before .before .before .before .before .before .good .1 .1 .1 .1 .1 in search (text-adds, g)
+add-t16 c = let g = c .before .before .before .before .before .before .before .before .before .before .before .before .before .good .1 .1 .1 .1 .1 in search (explained-adds, g)
 
 same-length : tie.Need-same-length
 same-length c = search needs
 
 returns : tie.Need-returns
-returns c = search line-stands
+returns c = let q = c .before .before .before .before .before .before .before .before .before .before .before .before .before .pre in line-explained _ _ _ _ _ _ _ _ _ _ (c .before .before .before .before .before .take-explained .ensures) (q .0) (q .1)
 
 pub explain-part-spec : {M : Type 1} → statement M
 explain-part-spec =

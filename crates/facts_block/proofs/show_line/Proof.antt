@@ -1,4 +1,4 @@
-use Rattle.facts_block.proofs.Calls.{line-stands}
+use Rattle.facts_block.proofs.Lines.{shown-adds, line-shown}
 use borrow.Author.Needs.{needs}
 use Rattle.facts_block.proofs.show_line.Statement.{statement}
 use Rattle.facts_block.proofs.show_line.Tie as tie
@@ -27,14 +27,17 @@ part-take-shown-end-2 c = search needs
 take-shown-requires : tie.Need-take-shown-requires
 take-shown-requires c κs = search needs
 
+add-t23 : tie.Need-add-t23
+add-t23 c = search needs
+
 add-t16 : tie.Need-add-t16
-add-t16 c = search needs
+add-t16 c = let g = c .before .before .before .before .before .before .before .before .before .before .before .before .before .good .1 .1 .1 .1 .1 in search (shown-adds, g)
 
 same-length : tie.Need-same-length
 same-length c = search needs
 
 returns : tie.Need-returns
-returns c = search line-stands
+returns c = let q = c .before .before .before .before .before .before .before .before .before .before .before .before .before .pre in line-shown _ _ _ _ _ _ _ _ _ _ (c .before .before .before .before .before .take-shown .ensures) (q .0) (q .1)
 
 pub show-line-spec : {M : Type 1} → statement M
 show-line-spec =
@@ -48,6 +51,7 @@ show-line-spec =
     part-take-shown-start-2
     part-take-shown-end-2
     take-shown-requires
+    add-t23
     add-t16
     same-length
     returns)

@@ -1,26 +1,14 @@
-use Rattle.text.proofs.Tests.{bools}
-use Rattle.feed_lines.specs.Feed.{roomLeft}
+use Rattle.feed_gather.proofs.Blocks.{room-is}
 use borrow.Author.Needs.{needs}
+use Rattle.feed_lines.specs.Feed.{dayProgram}
 use Rattle.feed_lines.proofs.room_left.Statement.{statement}
 use Rattle.feed_lines.proofs.room_left.Tie as tie
 
-sub-if1 : tie.Need-sub-if1
-sub-if1 c = search needs
+room-left-requires : tie.Need-room-left-requires
+room-left-requires c κs = search needs
 
 returns : tie.Need-returns
-unfolding roomLeft
-returns c = search bools
-
-sub-if2 : tie.Need-sub-if2
-sub-if2 c = search needs
-
-returns-2 : tie.Need-returns-2
-unfolding roomLeft
-returns-2 c = search bools
-
-returns-3 : tie.Need-returns-3
-unfolding roomLeft
-returns-3 c = search bools
+returns c = room-is dayProgram _ _ _ _ _ _ (c .room-left .ensures)
 
 pub room-left-spec : {M : Type 1} → statement M
-room-left-spec = tie.close (tie.spec sub-if1 returns sub-if2 returns-2 returns-3)
+room-left-spec = tie.close (tie.spec room-left-requires returns)

@@ -1,3 +1,4 @@
+use Rattle.feed_lines.specs.Feed.{dayProgram}
 use Rattle.vectors.proofs.Laws.{from-fresh}
 use borrow.Author.Needs.{needs}
 use Rattle.vectors.proofs.take_day.Statement.{statement}
@@ -16,7 +17,7 @@ same-length-2 : tie.Need-same-length-2
 same-length-2 c = search needs
 
 returns : tie.Need-returns
-returns c = search from-fresh
+returns c = search (from-fresh dayProgram)
 
 pub take-day-spec : {M : Type 1} → statement M
 take-day-spec = tie.close (tie.spec fresh-requires feed-requires same-length same-length-2 returns)

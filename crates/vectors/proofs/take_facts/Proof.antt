@@ -1,4 +1,6 @@
-use Rattle.vectors.proofs.Laws.{shown-from-fresh}
+use mathlib.Core.List.{[]}
+use Rattle.facts_block.specs.Shows.{factsProgram}
+use Rattle.vectors.proofs.Laws.{from-fresh}
 use borrow.Author.Needs.{needs}
 use Rattle.vectors.proofs.take_facts.Statement.{statement}
 use Rattle.vectors.proofs.take_facts.Tie as tie
@@ -13,7 +15,7 @@ same-length : tie.Need-same-length
 same-length c = search needs
 
 returns : tie.Need-returns
-returns c = search shown-from-fresh
+returns c = ?
 
 pub take-facts-spec : {M : Type 1} → statement M
 take-facts-spec = tie.close (tie.spec fresh-requires show-lines-requires same-length returns)
