@@ -1,3 +1,0 @@
-pub mod Most
-pub mod Room
-pub mod Tape

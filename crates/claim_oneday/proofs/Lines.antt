@@ -24,7 +24,7 @@ use Rattle.rules.proofs.Some.{some-minimum, some-mode, some-level}
 use Rattle.line_owed.specs.Reached.{Reached}
 use Rattle.line_owed.proofs.Reached.{kept-fresh, kept-call}
 use Rattle.claim_daytape.specs.Claim.{dayOfLines}
-use Rattle.claim_daytape.proofs.Room.{never-short}
+use Rattle.claim_programs.proofs.Room.{never-short}
 use Rattle.explain_fate.specs.Explained.{securityOf, tradeFate, cancelFate, correctionFate, stepFate, fateAt, fateOf, fateBy, isOnTape}
 use Rattle.explain_fate.specs.declared.Reasons.{Reasons}
 use Rattle.explain_fate.specs.declared.Fate.{Fate}

@@ -9,6 +9,9 @@ slice-aggregate-write-all c = search counted
 write-all-requires : tie.Need-write-all-requires
 write-all-requires c κs = search needs
 
+say-trouble-requires : tie.Need-say-trouble-requires
+say-trouble-requires c κs = search needs
+
 returns : tie.Need-returns
 returns c = search needs
 
@@ -27,6 +30,7 @@ write-out-spec =
     (tie.spec
     slice-aggregate-write-all
     write-all-requires
+    say-trouble-requires
     returns
     slice-aggregate-write-all-2
     write-all-requires-2

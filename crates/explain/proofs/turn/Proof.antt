@@ -1,65 +1,23 @@
-use Rattle.feed_input.proofs.Laws.{passed-within}
+use Rattle.feed_step.proofs.Turns.{turned}
 use borrow.Author.Needs.{needs}
 use Rattle.explain.proofs.turn.Statement.{statement}
 use Rattle.explain.proofs.turn.Tie as tie
 
-pass-requires : tie.Need-pass-requires
-pass-requires c κs = search needs
+read-input-requires : tie.Need-read-input-requires
+read-input-requires c κs = search needs
+
+step-requires : tie.Need-step-requires
+step-requires c κs = search needs
 
 same-length : tie.Need-same-length
 same-length c = search needs
 
-returns : tie.Need-returns
-returns c = search passed-within
-
-explain-block-requires : tie.Need-explain-block-requires
-explain-block-requires c κs = search needs
-
 same-length-2 : tie.Need-same-length-2
 same-length-2 c = search needs
 
-same-length-3 : tie.Need-same-length-3
-same-length-3 c = search needs
-
-returns-2 : tie.Need-returns-2
-returns-2 c = search needs
-
-same-length-4 : tie.Need-same-length-4
-same-length-4 c = search needs
-
-same-length-5 : tie.Need-same-length-5
-same-length-5 c = search needs
-
-returns-3 : tie.Need-returns-3
-returns-3 c = search needs
-
-refill-requires : tie.Need-refill-requires
-refill-requires c κs = (c .before .before .before .before .before .before .before .before .before .before .before .explain-block .ensures, c .before .before .before .before .before .before .before .before .before .before .before .before .before .before .before .before .before .before .before .pre .1)
-
-same-length-6 : tie.Need-same-length-6
-same-length-6 c = search needs
-
-same-length-7 : tie.Need-same-length-7
-same-length-7 c = search needs
-
-returns-4 : tie.Need-returns-4
-returns-4 c = search needs
+returns : tie.Need-returns
+returns c = search turned
 
 pub turn-spec : {M : Type 1} → statement M
 turn-spec =
-    tie.close
-    (tie.spec
-    pass-requires
-    same-length
-    returns
-    explain-block-requires
-    same-length-2
-    same-length-3
-    returns-2
-    same-length-4
-    same-length-5
-    returns-3
-    refill-requires
-    same-length-6
-    same-length-7
-    returns-4)
+    tie.close (tie.spec read-input-requires step-requires same-length same-length-2 returns)

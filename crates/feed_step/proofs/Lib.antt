@@ -1,0 +1,4 @@
+pub mod Ways
+pub mod How
+pub mod Steps
+pub mod Turns
