@@ -1,10 +1,11 @@
 -- A DAY'S TAPE: what lines print and what is told of them, by the rules alone. Assumes nothing.
 use Prim.Native.Nat.{ℕ, _+_}
+use mathlib.Core.Path.{_≡_}
 use mathlib.Core.List.{List, [], _∷_, _++_}
 use mathlib.Core.Option.{Option, none, some}
 use Rattle.rules.specs.Sizes.{longestPrint}
 use Rattle.rules.specs.Refusal.{numberOf}
-use Rattle.rules.specs.Day.{Day, Call, refusalOf, tapeOf, after, ample}
+use Rattle.rules.specs.Day.{Day, Call, fresh, refusalOf, tapeOf, after, ample}
 use Rattle.rules.specs.declared.Refusal.{Refusal}
 use Rattle.feed_lines.specs.Refusals.{refusalLine}
 
@@ -28,3 +29,8 @@ refusalsOfLines day number (l ∷ ls) = toldBy number (refusalOf day l longestPr
 unfoldable pub dayOfLines : Day → List (List ℕ) → Day
 dayOfLines day [] = day
 dayOfLines day (l ∷ ls) = dayOfLines (after day (ample l)) ls
+
+-- ---- THE CLAIM, of lines from a fresh state: what was written is their tape and their refusals
+pub record DayTape (ls : List (List ℕ)) (out err : List ℕ) : Type 0 where
+  pub tape-is : out ≡ tapeOfLines fresh ls
+  pub refusals-are : err ≡ refusalsOfLines fresh 1 ls

@@ -53,11 +53,11 @@ told-past t day n (l ∷ ls) h = rw (lt-leb n lastLine h, toldOfLines)
 
 -- ---- lines that are not as long as a line should be are alike
 
-unshaped : (line : List ℕ) → (length line ≡ width → ⊥) → isShaped line ≡ false
+pub unshaped : (line : List ℕ) → (length line ≡ width → ⊥) → isShaped line ≡ false
 unfolding isShaped
 unshaped line h = rw (ne-eqb (length line) width h)
 
-refused : (day : Day) (line : List ℕ) (room : ℕ) → (length line ≡ width → ⊥) → refusalOf day line room ≡ some Shape
+pub refused : (day : Day) (line : List ℕ) (room : ℕ) → (length line ≡ width → ⊥) → refusalOf day line room ≡ some Shape
 unfolding refusalOf refuse pick
 refused day line room h = rw (unshaped line h)
 

@@ -1,128 +1,65 @@
 // The reader's program (document 01, "Reader"): a tape on standard input, place and length of each print on standard output.
-// Input is read in blocks; prints are read as parts of a block, with LONGEST_PRINT bytes of look-ahead while the tape goes on.
+// `read_step` decides; here is read and written, and no more.
+use feed_trouble::TROUBLE_ROOM;
+use libc::STDERR_FILENO;
 use libc::STDOUT_FILENO;
-ghost use mathlib.Core.Path.{_≡_};
-ghost use mathlib.Core.Bool.{true, false};
-ghost use Prim.Native.Nat.{_+_, _-_, _≤_, _<_};
-ghost use lib.ListN.{length, take};
-ghost use Rattle.rules.specs.Sizes.{longestPrint};
-ghost use Rattle.read.specs.State.{Within, unread, Kept};
+use read_step::Standing;
+use read_step::Stepped;
+ghost use lib.ListN.{length};
+ghost use Rattle.feed_input.specs.Place.{Within};
+ghost use Rattle.read_tape.specs.Tape.{placeLine};
+ghost use Rattle.read_step.specs.Session.{Turn};
 
-// The place on the tape, the part of the block that is not yet read, whether the tape ends with it, and whether there is more
-// to do.
-struct State {
-    place: u64,
-    at: usize,
-    have: usize,
-    ended: bool,
-    going: bool,
+// A read or a write failed: one line says so.
+fn say_trouble(reading: bool, at: u64) {
+    let mut line = [0u8; TROUBLE_ROOM];
+    let n = feed_trouble::write_trouble(&mut line, b"read", reading, b"place ", at);
+    io::write_all(STDERR_FILENO, &line[..n]);
 }
 
-fn started() -> State
-    ensures { λ r. ⌜ Within r 0 ⌝ }
+// One turn: a read, where one is asked for, and a step.
+fn turn(s: Standing, block: &mut [u8], lines: &mut [u8]) -> Stepped
+    requires { ⌜ Within (s .place) (length (now block)) ⌝ }
+    ensures { λ r. ⌜ Turn placeLine 21 s (now (block .entry)) (now (lines .entry)) (now (block .exit)) (now (lines .exit)) r ⌝ }
 {
-    State {
-        place: 0,
-        at: 0,
-        have: 0,
-        ended: false,
-        going: true,
-    }
+    let place = s.place;
+    let answer = feed_refill::read_input(place, block);
+    read_step::step(s, answer, block, lines)
 }
 
-// Nothing more is read or written.
-fn stopped() -> State
-    ensures { λ r. ⌜ Within r 0 × (r .going ≡ false) ⌝ }
-{
-    State {
-        place: 0,
-        at: 0,
-        have: 0,
-        ended: true,
-        going: false,
+// The last turn: silent, unless a read failed.
+fn close(s: Standing) {
+    let place = s.place;
+    if place.failed {
+        say_trouble(true, s.at);
     }
 }
 
-// The tape is read to its end: no byte is left.
-fn over(s: State) -> State
-    requires { ⌜ s .have ≤ s .at ⌝ }
-    ensures { λ r. ⌜ Within r 0 ⌝ }
-{
-    stopped()
-}
-
-// More of the tape, behind what is not yet read; a short read is no end.
-fn read_more(s: State, block: &mut [u8]) -> State
-    requires { ⌜ Within s (length (now block)) × (longestPrint ≤ length (now block)) × (s .have - s .at < longestPrint) ⌝ }
-    ensures { λ r. ⌜ Within r (length (now (block .exit))) × (r .place ≡ s .place) × (take (s .have - s .at) (unread r (now (block .exit))) ≡ unread s (now (block .entry))) ⌝ }
-{
-    let at = s.at;
-    let have = s.have;
-    let rest = have - at;
-    let n = feed_refill::read_behind(block, at, have);
-    State {
-        place: s.place,
-        at: 0,
-        have: n,
-        ended: n == rest,
-        going: true,
-    }
-}
-
-// The prints of what is left, as many as may be read and as there is room for, and their lines are written.
-fn read_prints(s: State, block: &[u8], lines: &mut [u8]) -> State
-    requires { ⌜ Within s (length (now block)) × (21 ≤ length (now lines)) ⌝ }
-    ensures { λ r. ⌜ Within r (length (now (block .entry))) × Kept s r ⌝ }
-{
-    let at = s.at;
-    let have = s.have;
-    let r = read_tape::read_block(&block[at..have], s.place, s.ended, lines);
-    let n = r.written;
-    if !io::write_all(STDOUT_FILENO, &lines[..n]) {
-        return stopped();
-    }
-    if !r.going {
-        return stopped();
-    }
-    State {
-        place: s.place + r.at as u64,
-        at: at + r.at,
-        have: have,
-        ended: s.ended,
-        going: true,
-    }
-}
-
-// One turn: prints are read and their lines written, or the block is filled up; at the tape's end it stops.
-fn turn(s: State, block: &mut [u8], lines: &mut [u8]) -> State
-    requires { ⌜ Within s (length (now block)) × (longestPrint ≤ length (now block)) × (21 ≤ length (now lines)) ⌝ }
-    ensures { λ r. ⌜ Within r (length (now (block .exit))) ⌝ }
-{
-    let r = read_prints(s, block, lines);
-    if !r.going {
-        return r;
-    }
-    if r.at != s.at {
-        return r;
-    }
-    if r.ended {
-        return over(r);
-    }
-    read_more(r, block)
-}
-
-fn run(block: &mut [u8], lines: &mut [u8])
-    requires { ⌜ (longestPrint ≤ length (now block)) × (21 ≤ length (now lines)) ⌝ }
-{
-    let mut s = started();
+fn run(block: &mut [u8], lines: &mut [u8]) {
+    let mut s = read_step::started();
     let mut turns = u64::MAX;
-    while 0 < turns && s.going {
-        s = turn(s, block, lines);
+    while 0 < turns {
+        let r = turn(s, block, lines);
+        let n = r.count;
+        if !io::write_all(STDOUT_FILENO, &lines[..n]) {
+            say_trouble(false, s.at);
+            return;
+        }
+        let next = r.standing;
+        if r.over {
+            close(next);
+            return;
+        }
+        s = next;
         turns -= 1;
     }
 }
 
 fn main() {
+    if 1 < os::arg_count() {
+        io::write_all(STDERR_FILENO, b"usage: read < tape > lines\n");
+        return;
+    }
     let mut block = [0u8; 262144];
     let mut lines = [0u8; 65536];
     run(&mut block, &mut lines);

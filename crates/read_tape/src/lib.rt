@@ -8,7 +8,7 @@ ghost use lib.Dec.{leb};
 ghost use lib.ListN.{length};
 ghost use Rattle.text.specs.Put.{Written};
 ghost use Rattle.rules.specs.Sizes.{longestPrint};
-ghost use Rattle.read_tape.specs.Tape.{lineOf};
+ghost use Rattle.read_tape.specs.Tape.{lineOf, placeLine};
 ghost use Rattle.read_tape.specs.Block.{mayRead, blockRead, Stands, Steps};
 
 // Where the reading of a block stands: the bytes of the block that are read, the bytes in the lent lines, and whether it goes
@@ -31,7 +31,7 @@ fn write_line(rest: &mut [u8], place: u64, n: u64) -> usize
 }
 
 // Behind a print of n bytes at a place.
-fn goes_on(place: u64, n: u64) -> bool
+pub fn goes_on(place: u64, n: u64) -> bool
     requires { ⌜ (place ≤ 9999999999) × (n ≤ longestPrint) ⌝ }
     ensures { λ r. ⌜ r ≡ leb 1 n && leb (place + n) 9999999999 ⌝ }
 {
@@ -44,7 +44,7 @@ fn goes_on(place: u64, n: u64) -> bool
 // The print where the reading stands; the block begins at a place of the tape.
 fn read_print(block: &[u8], place: u64, r: Reading, lines: &mut [u8]) -> Reading
     requires { ⌜ (r .at ≤ length (now block)) × (place + r .at ≤ 9999999999) × (21 ≤ length (now lines) - r .written) ⌝ }
-    ensures { λ s. ⌜ Steps (now (block .entry)) place (now (lines .entry)) r (now (lines .exit)) s ⌝ }
+    ensures { λ s. ⌜ Steps placeLine (now (block .entry)) place (now (lines .entry)) r (now (lines .exit)) s ⌝ }
 {
     let at = r.at;
     let from = r.written;
@@ -61,14 +61,14 @@ fn read_print(block: &[u8], place: u64, r: Reading, lines: &mut [u8]) -> Reading
 
 // ---- a block
 
-// Bytes are left, enough of them to tell the print, and there is room for a line.
-fn may_read(left: usize, ended: bool, room: usize) -> bool
-    ensures { λ r. ⌜ r ≡ mayRead left ended room ⌝ }
+// Bytes are left, enough of them to tell the print, and there is room for a line of the most bytes.
+pub fn may_read(left: usize, ended: bool, room: usize, most: usize) -> bool
+    ensures { λ r. ⌜ r ≡ mayRead most left ended room ⌝ }
 {
     if left < 1 {
         return false;
     }
-    if room < 21 {
+    if room < most {
         return false;
     }
     if ended {
@@ -80,7 +80,7 @@ fn may_read(left: usize, ended: bool, room: usize) -> bool
 // Each print of the block, as long as LONGEST_PRINT bytes of it are left, or any where the tape ends with it, and 21 bytes of the lent
 // lines.
 pub fn read_block(block: &[u8], place: u64, ended: bool, lines: &mut [u8]) -> Reading
-    ensures { λ r. ⌜ Stands (now (lines .entry)) (blockRead (length (now (lines .entry))) (now (block .entry)) place ended) (now (lines .exit)) r ⌝ }
+    ensures { λ r. ⌜ Stands (now (lines .entry)) (blockRead placeLine 21 (length (now (lines .entry))) (now (block .entry)) place ended) (now (lines .exit)) r ⌝ }
 {
     let mut r = Reading {
         at: 0,
@@ -88,7 +88,7 @@ pub fn read_block(block: &[u8], place: u64, ended: bool, lines: &mut [u8]) -> Re
         going: place <= 9999999999,
     };
     while r.going {
-        if !may_read(block.len() - r.at, ended, lines.len() - r.written) {
+        if !may_read(block.len() - r.at, ended, lines.len() - r.written, 21) {
             return r;
         }
         r = read_print(block, place, r, lines);

@@ -21,7 +21,7 @@ use Rattle.reader.specs.declared.CorrectionRead.{CorrectionRead}
 use Rattle.reader.specs.Read.{readAt}
 use Rattle.reader.specs.Told.{lengthOf, nameAt, partIn, factIn}
 use Rattle.reader.proofs.Bounds.{read-length, past-end}
-use Rattle.read_told.specs.Lines.{announcementText, amongText, correctionText, factText, factsText, lineText, toldLine}
+use Rattle.read_told.specs.Lines.{announcementText, amongText, correctionText, factText, factsText, lineText, printLine, toldLine}
 
 -- ---- a side, from its prices in units and its letters as they are shown
 
@@ -91,6 +91,11 @@ pub ruleset ends = (announced-ends, announced-begins, announced-fits)
 
 -- ---- the line, from what a caller was answered
 
-pub told-is : (tape : List ℕ) (place : ℕ) (r : ReadAnswer) (n : ℕ) (name : List ℕ) → r ≡ readAt tape place → n ≡ lengthOf r → name ≡ nameAt tape place → toldLine tape place ≡ lineText place n name (factsText (factIn (drop place tape) r))
+pub told-is : (part : List ℕ) (at place : ℕ) (r : ReadAnswer) (n : ℕ) (name : List ℕ) → r ≡ readAt part at → n ≡ lengthOf r → name ≡ nameAt part at → printLine place (drop at part) ≡ lineText place n name (factsText (factIn (drop at part) r))
+unfolding printLine nameAt readAt
+told-is part at place r n name e k m = rw (k, m, e)
+
+-- of a whole tape
+pub tape-told : (tape : List ℕ) (place : ℕ) → toldLine tape place ≡ printLine place (drop place tape)
 unfolding toldLine
-told-is tape place r n name e k m = rw (k, m, e)
+tape-told tape place = refl

@@ -1,4 +1,4 @@
--- How long a line is: at most 205 bytes more than the tape. Assumes nothing.
+-- How long a line is: at most 205 bytes more than the rest of the tape. Assumes nothing.
 use Prim.Native.Nat.{ℕ, _+_, _^_, _≤_, _<_}
 use native.Mathlib.Omega.{arith}
 use mathlib.Core.Path.{refl, ap}
@@ -16,11 +16,11 @@ use Rattle.facts_side.proofs.Short.{full-short}
 use Rattle.reader.specs.declared.ReadAnswer.{ReadAnswer}
 use Rattle.reader.specs.declared.ReadAnswer.the-variants.{Announcement, Trade, Cancel, Error, Correction, Refused}
 use Rattle.reader.specs.declared.PrintRead.{PrintRead}
-use Rattle.reader.specs.Read.{printAt, readAt}
-use Rattle.reader.specs.Told.{lengthOf, nameFrom, nameLength, nameIn, nameAt, partIn, factIn}
+use Rattle.reader.specs.Read.{printAt}
+use Rattle.reader.specs.Told.{lengthOf, nameFrom, nameLength, nameIn, partIn, factIn}
 use Rattle.reader.proofs.Bounds.{print-within}
 use Rattle.facts_side.specs.Sound.{SoundSide}
-use Rattle.read_told.specs.Lines.{announcementText, amongText, correctionText, factText, factsText, placeText, nameText, lineText, toldLine}
+use Rattle.read_told.specs.Lines.{announcementText, amongText, correctionText, factText, factsText, placeText, nameText, lineText, printLine, toldLine}
 use Rattle.read_told.proofs.Sound.{SoundAnswer, answer-sound}
 use Rattle.read_told.proofs.Lines.{facts-trade}
 
@@ -58,12 +58,13 @@ line-short : (place n : ℕ) (name facts : List ℕ) → place < 10 ^ 10 → n <
 unfolding lineText nameText
 line-short place n name facts h k = simp length-append (omega (arith, place-short place n h k))
 
-pub told-short : (tape : List ℕ) (place : ℕ) → place < 10 ^ 10 → length tape < 10 ^ 10 → length (toldLine tape place) ≤ 205 + length tape
-unfolding toldLine nameAt readAt
-told-short tape place h k =
-    let s = drop place tape in
+pub print-short : (place : ℕ) (s : List ℕ) → place < 10 ^ 10 → length s < 10 ^ 10 → length (printLine place s) ≤ 205 + length s
+unfolding printLine
+print-short place s h k =
     let r = printAt s in
-    let w = print-within s in
-    let l = length-drop place tape in
-    let n : lengthOf r < 10 ^ 10 = omega (arith, w .print, l) in
-    omega (arith, line-short place (lengthOf r) (nameIn s r) (factsText (factIn s r)) h n, facts-short s r (answer-sound s), l)
+    let n : lengthOf r < 10 ^ 10 = omega (arith, print-within s .print) in
+    omega (arith, line-short place (lengthOf r) (nameIn s r) (factsText (factIn s r)) h n, facts-short s r (answer-sound s))
+
+pub told-short : (tape : List ℕ) (place : ℕ) → place < 10 ^ 10 → length tape < 10 ^ 10 → length (toldLine tape place) ≤ 205 + length tape
+unfolding toldLine
+told-short tape place h k = let l = length-drop place tape in omega (arith, print-short place (drop place tape) h (omega (arith, l)), l)

@@ -8,8 +8,8 @@ use Rattle.text_right.specs.Justified.{right}
 use Rattle.rules.specs.Shown.{Part}
 use Rattle.rules.specs.NormalPrint.{ReadFact, readAnnouncement, readTrade, readCancel, readError, readCorrection}
 use Rattle.facts_side.specs.Sides.{pricedText, partText, volumeText}
-use Rattle.reader.specs.Read.{readAt}
-use Rattle.reader.specs.Told.{lengthOf, nameAt, factIn}
+use Rattle.reader.specs.Read.{printAt}
+use Rattle.reader.specs.Told.{lengthOf, nameIn, factIn}
 
 -- ---- the facts of a print
 
@@ -46,5 +46,9 @@ nameText name = bytes " name=" ++ name ++ bytes " "
 unfoldable pub lineText : ℕ → ℕ → List ℕ → List ℕ → List ℕ
 lineText place length name facts = placeText place length ++ nameText name ++ facts ++ (10 ∷ [])
 
+-- of the print, or the refusal, that stands at a place, from the rest s of the tape there
+unfoldable pub printLine : ℕ → List ℕ → List ℕ
+printLine place s = lineText place (lengthOf (printAt s)) (nameIn s (printAt s)) (factsText (factIn s (printAt s)))
+
 unfoldable pub toldLine : List ℕ → ℕ → List ℕ
-toldLine tape place = lineText place (lengthOf (readAt tape place)) (nameAt tape place) (factsText (factIn (drop place tape) (readAt tape place)))
+toldLine tape place = printLine place (drop place tape)

@@ -17,9 +17,9 @@ ghost use Rattle.text.specs.Bytes.{bytes};
 ghost use Rattle.text.specs.Put.{Written};
 ghost use Rattle.facts_side.specs.Sides.{partText};
 ghost use Rattle.reader.specs.Read.{readAt};
-ghost use Rattle.reader.specs.Told.{partIn, factIn};
+ghost use Rattle.reader.specs.Told.{lengthOf, partIn, factIn};
 ghost use Rattle.facts_side.specs.Sound.{SoundSide};
-ghost use Rattle.read_told.specs.Lines.{announcementText, amongText, correctionText, factsText, placeText, nameText, lineText, toldLine};
+ghost use Rattle.read_told.specs.Lines.{announcementText, amongText, correctionText, factsText, placeText, nameText, lineText, printLine, toldLine};
 
 // ---- the facts of a print
 
@@ -88,11 +88,11 @@ fn write_facts(rest: &mut [u8], tape: &[u8], place: usize, r: ReadAnswer) -> usi
 
 // ---- the line
 
-fn write_places(rest: &mut [u8], place: usize, n: usize) -> usize
+fn write_places(rest: &mut [u8], place: u64, n: usize) -> usize
     requires { ⌜ length (placeText place n) ≤ length (now rest) ⌝ }
     ensures { λ r. ⌜ Written (placeText place n) (now (rest .entry)) (now (rest .exit)) r ⌝ }
 {
-    let at = text_right::write_right(rest, 10, place as u64);
+    let at = text_right::write_right(rest, 10, place);
     at + text_right::write_right(&mut rest[at..], 10, n as u64)
 }
 
@@ -105,31 +105,47 @@ fn write_name(rest: &mut [u8], name: &[u8]) -> usize
     j + text::write_bytes(&mut rest[j..], b" ")
 }
 
-// The line of the answer r at a place, n bytes long and with its name.
+// The line of the answer r, n bytes long and with its name, which stands in the tape's part that is given, from `at` on.
 fn write_line(
     rest: &mut [u8],
-    tape: &[u8],
-    place: usize,
+    part: &[u8],
+    at: usize,
+    place: u64,
     r: ReadAnswer,
     n: usize,
     name: &[u8],
 ) -> usize
-    requires { ⌜ (r ≡ readAt (now tape) place) × (length (lineText place n (now name) (factsText (factIn (drop place (now tape)) r))) ≤ length (now rest)) ⌝ }
-    ensures { λ k. ⌜ Written (lineText place n (now (name .entry)) (factsText (factIn (drop place (now (tape .entry))) r))) (now (rest .entry)) (now (rest .exit)) k ⌝ }
+    requires { ⌜ (r ≡ readAt (now part) at) × (length (lineText place n (now name) (factsText (factIn (drop at (now part)) r))) ≤ length (now rest)) ⌝ }
+    ensures { λ k. ⌜ Written (lineText place n (now (name .entry)) (factsText (factIn (drop at (now (part .entry))) r))) (now (rest .entry)) (now (rest .exit)) k ⌝ }
 {
     let i = write_places(rest, place, n);
     let j = i + write_name(&mut rest[i..], name);
-    let k = j + write_facts(&mut rest[j..], tape, place, r);
+    let k = j + write_facts(&mut rest[j..], part, at, r);
     k + text::write_bytes(&mut rest[k..], b"\n")
 }
 
-// The line of a place of a tape, with its line feed.
+// The line of a place on the tape, with its line feed: the answer r, n bytes long, is that at `at` in a part of it.
+pub fn write_print(
+    rest: &mut [u8],
+    part: &[u8],
+    at: usize,
+    place: u64,
+    r: ReadAnswer,
+    n: usize,
+) -> usize
+    requires { ⌜ (r ≡ readAt (now part) at) × (n ≡ lengthOf r) × (length (printLine place (drop at (now part))) ≤ length (now rest)) ⌝ }
+    ensures { λ k. ⌜ Written (printLine place (drop at (now (part .entry)))) (now (rest .entry)) (now (rest .exit)) k ⌝ }
+{
+    let name = reader::name_at(part, at);
+    write_line(rest, part, at, place, r, n, name)
+}
+
+// The same of a whole tape.
 pub fn write_told(rest: &mut [u8], tape: &[u8], place: usize) -> usize
     requires { ⌜ length (toldLine (now tape) place) ≤ length (now rest) ⌝ }
     ensures { λ r. ⌜ Written (toldLine (now (tape .entry)) place) (now (rest .entry)) (now (rest .exit)) r ⌝ }
 {
     let answer = reader::read_at(tape, place);
     let n = reader::length_of(answer);
-    let name = reader::name_at(tape, place);
-    write_line(rest, tape, place, answer, n, name)
+    write_print(rest, tape, place, place as u64, answer, n)
 }

@@ -1,11 +1,12 @@
 -- The loop's invariant: going on from here leads where the whole block leads. Assumes nothing.
+use Rattle.read_tape.specs.Tape.{placeLine}
 use Rattle.read_tape.proofs.Blocks.{Here, left, here-start, here-end, here-stop, here-placed, here-room, here-less, here-on}
 use borrow.Author.Needs.{needs}
 use Rattle.read_tape.proofs.read_block.Statement.{statement}
 use Rattle.read_tape.proofs.read_block.Tie as tie
 
 abbrev Inv-loop : tie.InvT-loop
-Inv-loop block place ended lines₀ r₀ lines r = Here block place ended lines₀ lines r
+Inv-loop block place ended lines₀ r₀ lines r = Here placeLine 21 block place ended lines₀ lines r
 
 abbrev μ-loop : tie.MeasureT-loop
 μ-loop block place ended lines₀ r₀ lines r = left block r

@@ -15,7 +15,7 @@ same-length : tie.Need-same-length
 same-length c = search needs
 
 returns : tie.Need-returns
-returns c = ?
+returns c = from-fresh factsProgram _ _ _ _ _ [] _ _ _ [] _ _ (c .before .before .before .before .before .before .fresh .ensures) (c .before .before .show-lines .ensures)
 
 pub take-facts-spec : {M : Type 1} → statement M
 take-facts-spec = tie.close (tie.spec fresh-requires show-lines-requires same-length returns)
