@@ -6,3 +6,4 @@ pub mod Goes
 pub mod Rest
 pub mod Onward
 pub mod Session
+pub mod Turns

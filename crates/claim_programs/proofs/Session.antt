@@ -111,37 +111,37 @@ module _ {g : Program} {s : Standing} {table names block bytes out err table′ 
   abbrev st : Steps g s (t .answer) table names (t .read) (t .lent-out) (t .lent-err) table′ names′ block′ (t .told-out) (t .told-err) r
   st = t .steps
 
-  abbrev p : Place
+  abbrev pub p : Place
   p = placeIn s (t .answer) (t .read)
 
-  abbrev w : Way
+  abbrev pub w : Way
   w = wayIn s (t .answer) (t .read)
 
-  abbrev q : Progress
+  abbrev pub q : Progress
   q = progressIn g s (t .answer) table names (t .read) (length (t .lent-out)) (length (t .lent-err))
 
-  abbrev u : List ℕ
+  abbrev pub u : List ℕ
   u = held p (t .read)
 
-  ways : How (s .passing) p (s .number) (length (t .read)) u w
+  pub ways : How (s .passing) p (s .number) (length (t .read)) u w
   ways = way-is st
 
-  over-way : isOver w ≡ r .over
+  pub over-way : isOver w ≡ r .over
   over-way = sym (st .over-is)
 
   place-is : r .standing .place ≡ goneOn (readsBy w) p (usedBy w (q .at))
   place-is = ap (λ (x : Standing). x .place) (st .standing-is)
 
-  next-held : held (r .standing .place) block′ ≡ drop (usedBy w (q .at)) u
+  pub next-held : held (r .standing .place) block′ ≡ drop (usedBy w (q .at)) u
   next-held = rw (place-is, st .block-is) (held-on p (usedBy w (q .at)) (t .read) (in-place st) (uses-held st) (readsBy w))
 
-  next-asks : r .standing .place .asks ≡ readsBy w
+  pub next-asks : r .standing .place .asks ≡ readsBy w
   next-asks = ap (λ (x : Place). x .asks) place-is ∙ asks-on (readsBy w) p (usedBy w (q .at))
 
-  next-ended : r .standing .place .ended ≡ p .ended
+  pub next-ended : r .standing .place .ended ≡ p .ended
   next-ended = ap (λ (x : Place). x .ended) place-is ∙ ended-on (readsBy w) p (usedBy w (q .at))
 
-  next-failed : r .standing .place .failed ≡ p .failed
+  pub next-failed : r .standing .place .failed ≡ p .failed
   next-failed = ap (λ (x : Place). x .failed) place-is ∙ failed-on (readsBy w) p (usedBy w (q .at))
 
   next-ahead : (x : Text) (v : Bool) (d : Day) (f : List ℕ) → rest x v d (q .number) (passingBy w (s .passing)) (drop (usedBy w (q .at)) u ++ f) ≡ rest x v d (r .standing .number) (r .standing .passing) (held (r .standing .place) block′ ++ f)
@@ -162,10 +162,10 @@ module _ {g : Program} {s : Standing} {table names block bytes out err table′ 
   wrote-err = sym (t .err-is ∙ front (st .err-is))
 
   -- the place after the read, in the block before it
-  after : Within (s .place) (length block) → After (s .place) block bytes (t .read) (takenIn (s .place) (t .answer) (length block))
+  pub after : Within (s .place) (length block) → After (s .place) block bytes (t .read) (takenIn (s .place) (t .answer) (length block))
   after i = after-read i (t .answers)
 
-  same-place : Within (s .place) (length block) → takenIn (s .place) (t .answer) (length block) ≡ p
+  pub same-place : Within (s .place) (length block) → takenIn (s .place) (t .answer) (length block) ≡ p
   same-place i = ap (takenIn (s .place) (t .answer)) (sym (after i .size))
 
 -- a program that stands in its block, on a state that holds a day: what it holds has no line feed where it asks for a read, and no read has failed where it asks for none
@@ -176,7 +176,7 @@ pub record Ready (s : Standing) (table names block : List ℕ) (day : Day) : Typ
   pub plain : s .place .asks ≡ true → length (held (s .place) block) ≤ lineLength (held (s .place) block)
   pub came : s .place .asks ≡ false → s .place .failed ≡ false
 
-quiet-none : {q : Place} {b bytes b′ : List ℕ} {y : ℤ} → Answers q b bytes y b′ → q .asks ≡ false → bytes ≡ []
+pub quiet-none : {q : Place} {b bytes b′ : List ℕ} {y : ℤ} → Answers q b bytes y b′ → q .asks ≡ false → bytes ≡ []
 quiet-none (unasked y h) n = refl
 quiet-none (came h k l c) n = two h n
 quiet-none (fails c h k) n = refl
