@@ -1,5 +1,6 @@
 -- THE DAY PROGRAM: whatever the reads, the joined tape and the joined refusals are those of the rules, of the lines of the joined input. Assumes nothing.
-use Prim.Native.Nat.{ℕ, _+_, _<_}
+use Prim.Native.Nat.{ℕ, _+_, _≤_, _<_}
+use native.Mathlib.Omega.{arith}
 use mathlib.Core.Path.{_≡_, refl, sym, ap, _∙_}
 use mathlib.Core.Bool.{Bool}
 use mathlib.Core.List.{List, [], _∷_, _++_}
@@ -13,6 +14,7 @@ use Rattle.call_table.specs.Sizes.{tableSize, namesSize}
 use Rattle.call_table.specs.Rows.{dayOf}
 use Rattle.call_plan.specs.declared.Plan.{Plan}
 use Rattle.call_plan.specs.declared.Plan.the-variants.{Stop, Open, Enter, Change, Level, Step, Print, Cancel, Correct}
+use Rattle.call_print.specs.Print as printed
 use Rattle.engine.specs.Taken.{asked, outcomeOf}
 use Rattle.claim_calls.specs.Held.{stopOf}
 use Rattle.claim_calls.proofs.Agree.{by-rules}
@@ -21,8 +23,11 @@ use Rattle.feed_gather.specs.Gather.{lastLine}
 use Rattle.feed_step.specs.Step.{opening}
 use Rattle.feed_step.specs.Session.{Session}
 use Rattle.feed_lines.specs.Feed.{told, dayProgram}
+use Rattle.feed_lines.proofs.Told.{told-fits}
 use Rattle.claim_programs.specs.Told.{Text, Tells}
-use Rattle.claim_programs.proofs.Room.{same-refusal, same-tape}
+use Rattle.claim_programs.specs.Exists.{Fits, Has}
+use Rattle.claim_programs.proofs.Room.{same-refusal, same-tape, tape-most}
+use Rattle.claim_programs.proofs.Exists.{session-exists}
 use Rattle.claim_programs.proofs.Lines.{refused}
 use Rattle.claim_programs.proofs.Last.{all-told}
 use Rattle.claim_programs.proofs.Session.{session-output}
@@ -90,3 +95,19 @@ day-tape {block} {input} {out} {err} {whole} b s =
       tape-is = z .0 ∙ all-told tape (λ day n ls. tapeOfLines day ls) tape-none tape-more fresh (linesBy whole input);
       refusals-are = z .1 ∙ all-told refusals refusalsOfLines refusals-none refusals-more fresh (linesBy whole input);
     }
+
+-- ---- and every input has a session
+
+fits : Fits dayProgram
+fits = record {
+  out-fits = λ st table names number line n rows places reached early wide.
+      omega (
+        arith,
+        ap length (sym (by-rules st table names line n rows places .print-is) ∙ same-tape (dayOf st table names) line reached n wide),
+        tape-most (dayOf st table names) line,
+      );
+  err-fits = λ st table names number line n k rows places reached early deep. omega (arith, told-fits number 0 (outcomeOf (asked st table names line n) (length (printed.printOf st names (asked st table names line n)))) (replicate 14 0) (omega arith) early);
+}
+
+pub day-exists : (lent-out lent-err block input : List ℕ) → longestPrint ≤ length lent-out → 14 ≤ length lent-err → width < length block → Has dayProgram opening (replicate tableSize 0) (replicate namesSize 0) block input
+day-exists lent-out lent-err block input a b c = session-exists tells fits lent-out lent-err a b block input c

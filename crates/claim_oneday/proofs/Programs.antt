@@ -1,5 +1,5 @@
 -- `factlines` AND `explain`: whatever the reads, what they write is the text of the shown facts, and the explanations, of the lines of the joined input. Assumes nothing.
-use Prim.Native.Nat.{ℕ, _+_, _<_}
+use Prim.Native.Nat.{ℕ, _+_, _≤_, _<_}
 use native.Mathlib.Omega.{arith}
 use mathlib.Core.Path.{_≡_, refl, sym, ap, _∙_}
 use mathlib.Core.Bool.{Bool, true, false}
@@ -10,8 +10,10 @@ use borrow.Author.Tests.{ne-eqb}
 use Rattle.text.specs.Pick.{pick}
 use Rattle.rules.specs.Sizes.{width, longestPrint}
 use Rattle.rules.specs.Line.{isShaped, lineOf}
-use Rattle.rules.specs.Day.{Day, Call, fresh, refusalOf, after, ample}
-use Rattle.rules.specs.Shown.{Fact, factOf, shownBy}
+use Rattle.rules.specs.Day.{Day, Call, fresh, printOf, refusalOf, tapeOf, after, ample}
+use Rattle.rules.specs.Shown.{Fact, announcedIf, tradeFact, factOf, shownBy}
+use Rattle.rules.specs.declared.Line.{Line}
+use Rattle.rules.specs.declared.Line.the-variants.{Dated, Listed, Moded, Leveled, Stepped, Traded, Cancelled, Erred, Corrected}
 use Rattle.rules.specs.declared.Refusal.{Refusal}
 use Rattle.rules.specs.declared.Refusal.the-variants.{Shape}
 use Rattle.call_table.specs.Sizes.{tableSize, namesSize}
@@ -21,19 +23,26 @@ use Rattle.feed_blocks.specs.Lines.{linesBy}
 use Rattle.feed_gather.specs.Gather.{lastLine}
 use Rattle.feed_step.specs.Step.{opening}
 use Rattle.feed_step.specs.Session.{Session}
+use Rattle.line_owed.proofs.Accepted.{accepted}
+use Rattle.facts_entry.proofs.Agree.{short-shown}
+use Rattle.facts_line.proofs.Short.{announcement, line-short}
 use Rattle.facts_line.specs.Lines as facts
-use Rattle.facts_block.specs.Shows.{factsProgram}
+use Rattle.facts_block.specs.Shows.{factsProgram, factRoom}
 use Rattle.facts_block.specs.Whole.{shownText}
 use Rattle.facts_block.proofs.Whole as shown
 use Rattle.explain_fate.specs.Explained.{securityIn, kindIn, fateOf, fateBy, explainedBy}
 use Rattle.explain_fate.specs.declared.Explanation.{Explanation}
 use Rattle.explain_fate.specs.declared.Fate.{Fate}
 use Rattle.explain_fate.specs.declared.Fate.the-variants.{Refused}
+use Rattle.explain_fate.proofs.Agree.{explained-small}
+use Rattle.explain_text.proofs.Short as explanation
 use Rattle.explain_text.specs.Lines as explanations
-use Rattle.explain_block.specs.Explains.{explainProgram}
+use Rattle.explain_block.specs.Explains.{explainProgram, explanationRoom}
 use Rattle.explain_block.specs.Whole.{explainedText}
 use Rattle.claim_programs.specs.Told.{Text, Tells}
+use Rattle.claim_programs.specs.Exists.{Fits, Has}
 use Rattle.claim_programs.proofs.Room.{same-refusal}
+use Rattle.claim_programs.proofs.Exists.{session-exists}
 use Rattle.claim_programs.proofs.Lines.{unshaped, refused}
 use Rattle.claim_programs.proofs.Last.{all-told}
 use Rattle.claim_programs.proofs.Session.{session-output}
@@ -105,3 +114,55 @@ explained-more day n l ls = refl
 pub day-explained : {block input out err : List ℕ} {whole : Bool} → width < length block → Session explainProgram opening (replicate tableSize 0) (replicate namesSize 0) block input whole out err → out ≡ explainedText fresh 1 (take lastLine (linesBy whole input))
 day-explained {block} {input} {out} {err} {whole} b s =
     session-output explanations-told b s .0 ∙ all-told explained explainedText explained-none explained-more fresh (linesBy whole input)
+
+-- ---- and every input has a session of each
+
+-- what an announcement shows is its print
+if-most : (s : List ℕ) → announcement (announcedIf s) ≤ length s
+unfolding announcedIf
+if-most [] = omega arith
+if-most (c ∷ s) = omega arith
+
+choice-none : (b : Bool) (f : Fact) → announcement (some f) ≡ 0 → (n : ℕ) → announcement (pick b (some f) none) ≤ n
+unfolding pick
+choice-none true f e n = omega (arith, e)
+choice-none false f e n = omega arith
+
+line-most : (day : Day) (l : Line) → announcement (factOf day l) ≤ length (printOf day l)
+unfolding factOf tradeFact printOf
+line-most day (Dated n) = omega arith
+line-most day (Listed l) = omega arith
+line-most day (Moded m) = if-most _
+line-most day (Leveled n) = if-most _
+line-most day (Stepped n) = if-most _
+line-most day (Traded t) = choice-none _ _ refl _
+line-most day (Cancelled t) = omega arith
+line-most day (Erred t) = omega arith
+line-most day (Corrected c) = choice-none _ _ refl _
+
+announced-most : (day : Day) (line : List ℕ) → announcement (shownBy day (ample line)) ≤ longestPrint
+unfolding shownBy tapeOf
+announced-most day line = go (refusalOf day line longestPrint) refl
+  where
+    go : (o : Option Refusal) → refusalOf day line longestPrint ≡ o → announcement (elim o [ some r ↦ none | none ↦ factOf day (lineOf line) ]) ≤ longestPrint
+    go (some r) e = omega arith
+    go none e = omega (arith, line-most day (lineOf line), accepted day line longestPrint e .fits)
+
+facts-fit : Fits factsProgram
+facts-fit = record {
+  out-fits = λ st table names number line n rows places reached early wide.
+      omega (arith, line-short (shownBy (dayOf st table names) (ample line)) (short-shown st table names line longestPrint rows places), announced-most (dayOf st table names) line);
+  err-fits = λ st table names number line n k rows places reached early deep. omega arith;
+}
+
+explanations-fit : Fits explainProgram
+explanations-fit = record {
+  out-fits = λ st table names number line n rows places reached early wide. omega (arith, explanation.line-short number (explainedBy (dayOf st table names) (ample line)) early (explained-small (dayOf st table names) (ample line)));
+  err-fits = λ st table names number line n k rows places reached early deep. omega arith;
+}
+
+pub facts-exist : (lent block input : List ℕ) → factRoom ≤ length lent → width < length block → Has factsProgram opening (replicate tableSize 0) (replicate namesSize 0) block input
+facts-exist lent block input a c = session-exists facts-told facts-fit lent [] a (omega arith) block input c
+
+pub explanations-exist : (lent block input : List ℕ) → explanationRoom ≤ length lent → width < length block → Has explainProgram opening (replicate tableSize 0) (replicate namesSize 0) block input
+explanations-exist lent block input a c = session-exists explanations-told explanations-fit lent [] a (omega arith) block input c

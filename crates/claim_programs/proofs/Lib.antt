@@ -7,3 +7,4 @@ pub mod Rest
 pub mod Onward
 pub mod Session
 pub mod Turns
+pub mod Exists

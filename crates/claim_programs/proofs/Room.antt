@@ -20,6 +20,7 @@ use Rattle.rules.specs.declared.Refusal.the-variants.{Shape, Kind, NoDate, Form
 use Rattle.rules.specs.Sizes.{longestPrint}
 use Rattle.line_owed.specs.Reached.{Reached}
 use Rattle.line_owed.proofs.Owed.{owed-line}
+use Rattle.line_owed.proofs.Accepted.{accepted}
 use Rattle.claim_programs.proofs.Most.{print-by}
 
 -- ---- a chain of refusals that ends in 13
@@ -97,3 +98,12 @@ module _ (day : Day) (line : List ℕ) (reached : Reached day) where
     pub same-after : after day (record { line = line; room = room }) ≡ after day (ample line)
     unfolding after
     same-after = ap (λ (o : Option Refusal). elim o [ some r ↦ day | none ↦ afterLine day (nameColumns line) (lineOf line) ]) same-refusal
+
+-- on any day a print is no longer than what was lent for it
+pub tape-most : (day : Day) (line : List ℕ) → length (tapeOf day (ample line)) ≤ longestPrint
+unfolding tapeOf
+tape-most day line = go (refusalOf day line longestPrint) refl
+  where
+    go : (o : Option Refusal) → refusalOf day line longestPrint ≡ o → length {A = ℕ} (elim o [ some r ↦ [] | none ↦ printOf day (lineOf line) ]) ≤ longestPrint
+    go (some r) e = omega arith
+    go none e = accepted day line longestPrint e .fits

@@ -223,7 +223,7 @@ module _ {g : Program} {out err : Text} (tells : Tells g out err) where
     held-is : u t ≡ held (s .place) block ++ bytes
     held-is = ap (λ (x : Place). held x (t .read)) (sym (same-place t (y .within))) ∙ after t (y .within) .held-is
 
-    wide : width < length (t .read)
+    pub wide : width < length (t .read)
     wide = omega (arith, after t (y .within) .size, y .big)
 
     -- a failed read leaves what was held
@@ -238,10 +238,10 @@ module _ {g : Program} {out err : Text} (tells : Tells g out err) where
         go true a = let none : bytes ≡ [] = broke (y .within) (t .answers) a pf in rw (held-is, none, append-nil) (y .plain a)
 
     module _ (going : r .over ≡ false) where
-      on : Onward tells (length (t .lent-out)) (length (t .lent-err)) (length (t .read)) wide (t .out-room) (t .err-room) (s .passing) (p t) (s .number) (u t) (s .settings) table names day (y .holds) (w t)
+      pub on : Onward tells (length (t .lent-out)) (length (t .lent-err)) (length (t .read)) wide (t .out-room) (t .err-room) (s .passing) (p t) (s .number) (u t) (s .settings) table names day (y .holds) (w t)
       on = onward tells (length (t .lent-out)) (length (t .lent-err)) (length (t .read)) wide (t .out-room) (t .err-room) (s .passing) (p t) (s .number) (u t) (s .settings) table names day (y .holds) (ways t) (over-way t ∙ going)
 
-      ready : Ready (r .standing) table′ names′ block′ (on .day′)
+      pub ready : Ready (r .standing) table′ names′ block′ (on .day′)
       ready =
           record {
             holds = next-holds t (on .day′) (on .on);
@@ -292,7 +292,7 @@ module _ {g : Program} {out err : Text} (tells : Tells g out err) where
 
   -- ---- from a fresh state and cleared tables
 
-  starts : (block : List ℕ) → width < length block → Ready opening (replicate tableSize 0) (replicate namesSize 0) block fresh
+  pub starts : (block : List ℕ) → width < length block → Ready opening (replicate tableSize 0) (replicate namesSize 0) block fresh
   unfolding opening lineLength fresh
   starts block b =
       record {

@@ -29,15 +29,15 @@ use Rattle.feed_step.proofs.Steps.{stands-within, same-size, uses}
 use Rattle.claim_programs.proofs.Session as session
 
 -- what counts: bytes held and to come, a line that is passed over, a step before a read, the input's end
-abbrev one : Bool → ℕ
+abbrev pub one : Bool → ℕ
 one true = 1
 one false = 0
 
-abbrev none : Bool → ℕ
+abbrev pub none : Bool → ℕ
 none true = 0
 none false = 1
 
-abbrev cost : ℕ → ℕ → Bool → Bool → Bool → ℕ
+abbrev pub cost : ℕ → ℕ → Bool → Bool → Bool → ℕ
 cost h i passing asks ended = 2 * h + 3 * i + one passing + none asks + 2 * none ended
 
 one-most : (b : Bool) → one b ≤ 1
@@ -124,7 +124,7 @@ pub record Open (s : Standing) (block : List ℕ) : Type 0 where
   pub big : 1 ≤ length block
   pub goes-on : s .place .asks ≡ true → s .place .ended ≡ false
 
-abbrev left : Standing → List ℕ → List ℕ → ℕ
+abbrev pub left : Standing → List ℕ → List ℕ → ℕ
 left s block input = cost (length (held (s .place) block)) (length input) (s .passing) (s .place .asks) (s .place .ended)
 
 module _ {g : Program} {s : Standing} {table names block bytes out err table′ names′ block′ : List ℕ} {r : Stepped} (t : Turn g s table names block bytes out err table′ names′ block′ r) (y : Open s block) (going : r .over ≡ false) where
@@ -157,7 +157,7 @@ module _ {g : Program} {s : Standing} {table names block bytes out err table′ 
   ended-now : none (r .standing .place .ended) ≡ none (p .ended)
   ended-now = ap none (session.next-ended t)
 
-  open-next : Open (r .standing) block′
+  pub open-next : Open (r .standing) block′
   open-next =
       record {
         within = stands-within (t .steps);
@@ -189,7 +189,7 @@ module _ {g : Program} {s : Standing} {table names block bytes out err table′ 
         go true e = omega (arith, held-now, held-then, passing-now, asks-now, ended-now ∙ ap none e, paid .behind-read, length-append bytes input, ap length (after .none-left e a), open-then, k)
         go false e = omega (arith, held-now, held-then, passing-now, asks-now, ended-now ∙ ap none e, paid .behind-read, length-append bytes input, after .came-some a e, open-then, k)
 
-    turn-less : left (r .standing) block′ input < left s block (bytes ++ input)
+    pub turn-less : left (r .standing) block′ input < left s block (bytes ++ input)
     turn-less = go (s .place .asks) refl
       where
         go : (b : Bool) → s .place .asks ≡ b → left (r .standing) block′ input < left s block (bytes ++ input)
