@@ -16,7 +16,7 @@ use rules::{
 };
 
 // What an accepted trade prints, and the security after it.
-#[derive(Drop)]
+#[derive(Clone, Copy)]
 pub struct TradePlan {
     pub place: usize,
     pub side: Side,
@@ -30,7 +30,7 @@ pub struct TradePlan {
 }
 
 // What an accepted cancel or error prints.
-#[derive(Drop)]
+#[derive(Clone, Copy)]
 pub struct CancelPlan {
     pub error: bool,
     pub place: usize,
@@ -42,7 +42,7 @@ pub struct CancelPlan {
 }
 
 // What an accepted correction prints, and the security after it.
-#[derive(Drop)]
+#[derive(Clone, Copy)]
 pub struct CorrectionPlan {
     pub place: usize,
     pub original: Side,
@@ -56,7 +56,7 @@ pub struct CorrectionPlan {
 }
 
 // What a line asks for, or the refusal that stops it.
-#[derive(Drop)]
+#[derive(Clone, Copy)]
 pub enum Plan {
     Stop(Refusal),
     Open(u64),

@@ -1,4 +1,6 @@
 // The lent tables of a day: what PLACES securities have by numbers, a row a place, and their names.
+#![tactic(auto)]
+
 ghost use Rattle.std.specs.Prelude.{◌≡◌, ◌<◌, ◌*◌, ◌≤◌, ◌+◌, replicate, length, take, drop};
 ghost use Rattle.text.specs.Put.{Written};
 ghost use Rattle.rules.specs.Sizes.{security_places, name_width};

@@ -17,7 +17,7 @@ use rules::{LONGEST_PRINT, Letters, Price, PriceForm, Security, Settings, Side};
 
 // Whether the trade was carried out, and the length of its print, 0 where it is left off. It is not where J or G are on the
 // wrong network (10) or its print is longer than the lent tape (13); nothing is done then.
-#[derive(Drop)]
+#[derive(Clone, Copy)]
 pub struct TradeAnswer {
     pub taken: bool,
     pub length: usize,

@@ -1,5 +1,7 @@
 // What letters and a security's entry say by themselves (document 01, Price and conditions): which trades qualify for high,
 // low and last, which network has a letter, whether a security is entered and shows its temporary suffix.
+#![tactic(auto)]
+
 ghost use Rattle.std.specs.Prelude.{◌≡◌, ◌||◌, not, eqb};
 ghost use Rattle.rules.specs.Conditions.{has_rule, on_network};
 ghost use Rattle.rules.specs.Qualifying.{for_neither, for_range_only, for_range, for_last};

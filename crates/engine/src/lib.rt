@@ -14,13 +14,13 @@ use line_trade::TradeLine;
 use rules::{FIRST_SIDE, Refusal, SECOND_SIDE, Settings};
 
 // Accepted, with the length of its print, 0 where nothing prints; or refused.
-#[derive(Drop)]
+#[derive(Clone, Copy)]
 pub enum Outcome {
     Accepted(usize),
     Refused(Refusal),
 }
 
-#[derive(Drop)]
+#[derive(Clone, Copy)]
 pub struct Answer {
     pub outcome: Outcome,
     pub settings: Settings,

@@ -15,7 +15,7 @@ use line_kinds::Reading;
 use rules::{Correction, Line, Mode, Refusal, Security, Settings, Trade};
 
 // Why a line prints, why its price is in full, why its volume is shown.
-#[derive(Drop)]
+#[derive(Clone, Copy)]
 pub struct Reasons {
     pub prints: PrintReasons,
     pub full: FullReasons,
@@ -24,7 +24,7 @@ pub struct Reasons {
 
 // What becomes of a line: refused; accepted, with nothing to print; an announcement; a trade or a correction that the mode
 // leaves off; a print, with its reasons.
-#[derive(Drop)]
+#[derive(Clone, Copy)]
 pub enum Fate {
     Refused(Refusal),
     Accepted,
@@ -35,7 +35,7 @@ pub enum Fate {
 
 // A line's kind, `-` where it is refused 1 or 2; its security, 0 where it has none or is not in its form and within its
 // values; what becomes of it.
-#[derive(Drop)]
+#[derive(Clone, Copy)]
 pub struct Explanation {
     pub kind: u8,
     pub security: u64,

@@ -13,7 +13,7 @@ use rules::{Mode, Printed, Range, Security, Settings, Side};
 // last printed; it is far from the last printed; it is the first that qualifies for last; six; at the level; unit 1; J or G.
 // Of a correction these are the correcting trade's, and: prices differ and the correcting volume is at the level; R and prices
 // differ; its price is unlike the consolidated last; the original's volume is at the level; the original has J or G.
-#[derive(Drop)]
+#[derive(Clone, Copy)]
 pub struct PrintReasons {
     pub every: bool,
     pub high: bool,
@@ -34,7 +34,7 @@ pub struct PrintReasons {
 
 // Why a price is in full: the mode is normal; none is printed yet; tens or higher differ; it ends in 0; unit 1; 1,000 or over;
 // six. Of a cancel, an error and the correcting trade: it ends in 0 or is 1,000 or over; of the original the same.
-#[derive(Drop)]
+#[derive(Clone, Copy)]
 pub struct FullReasons {
     pub normal: bool,
     pub none: bool,
@@ -48,7 +48,7 @@ pub struct FullReasons {
 }
 
 // Why a volume is shown: the mode is normal; at the level; the first that qualifies for last; six; J or G.
-#[derive(Drop)]
+#[derive(Clone, Copy)]
 pub struct VolumeReasons {
     pub normal: bool,
     pub level: bool,

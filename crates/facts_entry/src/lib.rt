@@ -19,7 +19,7 @@ use rules::{Letters, Mode, NAME_WIDTH, Settings, Side};
 
 // The conditions of a side as they are shown: N as M, C as K; days and previous last 0 for none. Prices are in units of ten
 // to the power -8 dollars.
-#[derive(Drop)]
+#[derive(Clone, Copy)]
 pub struct Conditions {
     pub letters: Letters,
     pub days: u64,
@@ -27,21 +27,21 @@ pub struct Conditions {
 }
 
 // A side of a C, X or E: in normal its price, conditions and volume, otherwise its conditions.
-#[derive(Drop)]
+#[derive(Clone, Copy)]
 pub enum Part {
     Full(u64, Conditions, u64),
     Bare(Conditions),
 }
 
 // The volume of a trade, if it is shown.
-#[derive(Drop)]
+#[derive(Clone, Copy)]
 pub enum Volume {
     Shown(u64),
     Hidden,
 }
 
 // A trade: its security's number, the temporary suffix shown or not, its price.
-#[derive(Drop)]
+#[derive(Clone, Copy)]
 pub struct TradeEntry {
     pub security: u64,
     pub temporary: bool,
@@ -52,7 +52,7 @@ pub struct TradeEntry {
 
 // What a line adds: nothing; an announcement, whose text is the print; a trade; a cancel, an error, a correction, with the
 // security's number.
-#[derive(Drop)]
+#[derive(Clone, Copy)]
 pub enum Entry {
     Silent,
     Announced,

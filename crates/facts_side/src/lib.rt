@@ -1,4 +1,6 @@
 // A side that is shown in full, as text: price=P cond=L days=Y prev=Q vol=V. Prices are by value; `-` is none.
+#![tactic(auto)]
+
 ghost use Rattle.std.specs.Prelude.{◌≡◌, ◌||◌, ◌≤◌, length};
 ghost use Rattle.text.specs.Put.{Written};
 ghost use Rattle.rules.specs.Shown.{shown_letters};

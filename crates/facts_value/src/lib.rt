@@ -1,5 +1,7 @@
 // Numbers and prices of a shown fact, as text. A price is by value: its whole part, then a point and the fraction without the
 // zeros at its end, unless it is zero.
+#![tactic(auto)]
+
 ghost use Rattle.std.specs.Prelude.{◌≡◌, ◌≤◌, length};
 ghost use Rattle.text.specs.Put.{Written};
 ghost use Rattle.text.specs.Decimal.{places};
@@ -17,7 +19,7 @@ pub fn write_number(rest: &mut [u8], n: u64) -> usize
 }
 
 // Digits that are written in a number of places.
-#[derive(Drop)]
+#[derive(Clone, Copy)]
 struct Digits {
     number: u64,
     places: usize,

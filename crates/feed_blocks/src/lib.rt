@@ -1,5 +1,7 @@
 // A block of bytes read so far: the lines in it (a line is what a line feed ends), where the next one ends, and what is left
 // moved to the front.
+#![tactic(auto)]
+
 ghost use Rattle.std.specs.Prelude.{◌≡◌, ◌+◌, ◌-◌, ◌≤◌, length, drop};
 ghost use Rattle.text.specs.Put.{Written};
 ghost use Rattle.rules.specs.Sizes.{width};

@@ -11,7 +11,7 @@ pub const LAST_LINE: u64 = 9999999999;
 
 // Where the reading of a block stands: the settings, the number of the next line, the bytes of the block that are read, the
 // bytes gathered for standard output and for standard error.
-#[derive(Drop)]
+#[derive(Clone, Copy)]
 pub struct Fed {
     pub settings: Settings,
     pub number: u64,
@@ -21,7 +21,7 @@ pub struct Fed {
 }
 
 // A call's settings, and how many bytes are told of it.
-#[derive(Drop)]
+#[derive(Clone, Copy)]
 pub struct Told {
     pub settings: Settings,
     pub count: usize,

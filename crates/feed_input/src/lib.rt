@@ -9,7 +9,7 @@ ghost use Rattle.feed_input.specs.Place.{opening, came_of, is_failure, taken_in,
 
 // The bytes of the block from `at` to `have` are held: read, and not yet used. `asks`: a read comes next. `ended`: nothing more
 // comes, since the input is at its end or, `failed`, since a read failed.
-#[derive(Drop)]
+#[derive(Clone, Copy)]
 pub struct Place {
     pub at: usize,
     pub have: usize,

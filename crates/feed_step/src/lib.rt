@@ -14,7 +14,7 @@ use rules::Settings;
 
 // Where a program stands: its place in the input, the settings, the number of the next line, and whether the line that is being
 // read is longer than the block: then its bytes are passed over, up to its end.
-#[derive(Drop)]
+#[derive(Clone, Copy)]
 pub struct Standing {
     pub place: Place,
     pub settings: Settings,
@@ -23,7 +23,7 @@ pub struct Standing {
 }
 
 // After a step: how many bytes are to be written to standard output and to standard error, and whether it was the last.
-#[derive(Drop)]
+#[derive(Clone, Copy)]
 pub struct Stepped {
     pub standing: Standing,
     pub out: usize,
@@ -33,7 +33,7 @@ pub struct Stepped {
 
 // What a step does with the bytes that are held: each line that a line feed ends; one line, from a place on, so many bytes
 // being used; so many bytes passed over, and a read comes next; nothing, it is the last.
-#[derive(Drop)]
+#[derive(Clone, Copy)]
 pub enum Way {
     Lines,
     Line(usize, usize),

@@ -1,4 +1,6 @@
 // What a program says where a read or a write fails, one line: `day: cannot read standard input after line 17`.
+#![tactic(auto)]
+
 ghost use Rattle.std.specs.Prelude.{◌≡◌, ◌≤◌, length};
 ghost use Rattle.text.specs.Put.{Written};
 ghost use Rattle.feed_trouble.specs.Trouble.{what_text, trouble_text};

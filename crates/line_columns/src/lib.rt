@@ -1,5 +1,7 @@
 // Numbers in their columns, looked at all at once: right-justified, blanks before them, no leading zero. Tables say where each
 // begins; every column is looked at, so that many are compared at once.
+#![tactic(auto)]
+
 ghost use Rattle.std.specs.Prelude.{◌≡◌, ◌+◌, ◌≤◌, length, get_or, drop};
 ghost use Rattle.text.specs.Pick.{pick};
 ghost use Rattle.line_columns.specs.Columns.{fits, formed, worth_of};

@@ -1,4 +1,6 @@
 // The texts and letters of a day line's fields, each read from its own columns (document 01, Day lines).
+#![tactic(auto)]
+
 ghost use Rattle.std.specs.Prelude.{◌≡◌, ◌≤◌, ◌<◌, length, drop};
 ghost use Rattle.text.specs.Pick.{among, all};
 ghost use Rattle.text.specs.Reading.{span};

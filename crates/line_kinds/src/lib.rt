@@ -11,7 +11,7 @@ use rules::{
 };
 
 // The fields that T, X and E have in common.
-#[derive(Drop)]
+#[derive(Clone, Copy)]
 pub struct TradeRead {
     pub formed: bool,
     pub ranged: bool,
@@ -19,7 +19,7 @@ pub struct TradeRead {
 }
 
 // What a line is by itself: refused by number 1, 2, 4 or 5, or taken.
-#[derive(Drop)]
+#[derive(Clone, Copy)]
 pub enum Reading {
     Refused(Refusal),
     Taken(Line),

@@ -10,7 +10,7 @@ ghost use Rattle.rules.specs.Line.{formed_by, ranged_by, side_by, matched_by};
 use rules::{Letters, Number, Price, Side};
 
 // One side of a T, X, E or C line: in its form, within its values, its value, and what refusals 10 and 11 ask of it alone.
-#[derive(Drop)]
+#[derive(Clone, Copy)]
 pub struct SideRead {
     pub formed: bool,
     pub ranged: bool,
@@ -20,7 +20,7 @@ pub struct SideRead {
 }
 
 // The numbers in a side's columns: volume, price n over ten to the power d, days, previous last m over ten to the power e.
-#[derive(Drop)]
+#[derive(Clone, Copy)]
 pub struct SideFields {
     pub volume: Number,
     pub n: Number,
@@ -31,7 +31,7 @@ pub struct SideFields {
 }
 
 // The condition letters in their four columns: in their form, which they are, and what refusal 10 asks of them alone.
-#[derive(Drop)]
+#[derive(Clone, Copy)]
 pub struct LettersRead {
     pub formed: bool,
     pub letters: Letters,

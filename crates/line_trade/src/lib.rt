@@ -9,7 +9,7 @@ use rules::{Letters, WIDTH};
 
 // A T line that nothing but the day's state can stop: its security and market, then its side: volume, price n over ten to the
 // power d, letters, days, previous last m over ten to the power e. `good` is false for every other line, and all else is 0 then.
-#[derive(Drop)]
+#[derive(Clone, Copy)]
 pub struct TradeLine {
     pub good: bool,
     pub security: u64,

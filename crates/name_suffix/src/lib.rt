@@ -1,5 +1,7 @@
 // Which names of securities are lawful (document 01, "Names", refusal 8): listed suffixes, families, temporary suffixes,
 // appendages. A name is the nineteen columns 6 to 24 of an S line: root 6, suffix 7, temporary suffix 4, appendage 2.
+#![tactic(auto)]
+
 ghost use Rattle.std.specs.Prelude.{◌≡◌, ◌&&◌, [], ◌∷◌, eqb, length, drop};
 ghost use Rattle.text.specs.Bytes.{bytes};
 ghost use Rattle.text.specs.Pick.{same, member};

@@ -1,5 +1,7 @@
 // Names of securities as texts (document 01, "Names"): their lengths and writers, and which are the same. A name is the
 // nineteen columns 6 to 24 of an S line: root 6, suffix 7, temporary suffix 4, appendage 2.
+#![tactic(auto)]
+
 ghost use Rattle.std.specs.Prelude.{◌≡◌, true, false, ◌+◌, ◌≤◌, eqb, length, take};
 ghost use Rattle.text.specs.Pick.{pick, opt, same};
 ghost use Rattle.text.specs.Put.{Written};

@@ -1,4 +1,6 @@
 // Words in the fields of a name: letters first, then blanks only; words told apart by their bytes.
+#![tactic(auto)]
+
 ghost use Rattle.std.specs.Prelude.{◌≡◌};
 ghost use Rattle.text.specs.Pick.{among};
 ghost use Rattle.text.specs.Reading.{starts};

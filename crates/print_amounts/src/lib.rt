@@ -1,5 +1,7 @@
 // Volume and price of a side, written to the rest of the tape from the side's own columns. Each sets a fixed number of bytes
 // there, and puts back those that stood behind its text.
+#![tactic(auto)]
+
 ghost use Rattle.std.specs.Prelude.{◌≡◌, ◌++◌, ◌+◌, ◌-◌, ◌/◌, ◌%◌, ◌≤◌, ◌<◌, eqb, ltb, length, take, drop};
 ghost use Rattle.text.specs.Bytes.{bytes};
 ghost use Rattle.text.specs.Pick.{pick, opt};

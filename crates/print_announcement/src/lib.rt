@@ -1,4 +1,6 @@
 // Announcements (document 01, "Announcements"): fixed byte strings with a figure between; the length of each and its writer.
+#![tactic(auto)]
+
 ghost use Rattle.std.specs.Prelude.{◌≡◌, ◌≤◌, ◌++◌, length};
 ghost use Rattle.text.specs.Bytes.{bytes};
 ghost use Rattle.text.specs.Put.{Written};

@@ -1,5 +1,7 @@
 // Prices as texts, in full and short, and by value (document 01, "Price and conditions"): the length of each text and its
 // writer, which is lent the rest of the tape.
+#![tactic(auto)]
+
 ghost use Rattle.std.specs.Prelude.{◌≡◌, ◌+◌, ◌≤◌, ◌<◌, ◌^◌, ◌++◌, length};
 ghost use Rattle.text.specs.Bytes.{bytes};
 ghost use Rattle.text.specs.Pick.{pick};

@@ -1,5 +1,7 @@
 // Volumes as texts (document 01, "Volume"): the length of each and its writer, which is lent the rest of the tape. One
 // writer serves all units and both networks.
+#![tactic(auto)]
+
 ghost use Rattle.std.specs.Prelude.{◌≡◌, ◌/◌, ◌^◌, ◌≤◌, ◌&&◌, ◌||◌, not, ◌++◌, eqb, ltb, length};
 ghost use Rattle.text.specs.Put.{Written};
 ghost use Rattle.text.specs.Decimal.{decimal};
@@ -62,7 +64,7 @@ pub fn write_full_volume(rest: &mut [u8], n: u64) -> usize
 // ---- how a volume is shown (document 01, "Volume")
 
 // Its figures without their last `cut` digits, then `size` bytes of the marks, from `mark` on.
-#[derive(Drop)]
+#[derive(Clone, Copy)]
 pub struct Form {
     pub cut: usize,
     pub mark: usize,

@@ -11,7 +11,7 @@ use rules::{Letters, Price, Side};
 
 // What is taken so far of a part: its side (m for next day, k for cash), the bytes, the number of letters, and whether
 // network A and network B still explain the print.
-#[derive(Drop)]
+#[derive(Clone, Copy)]
 pub struct Taken {
     pub side: Side,
     pub used: usize,

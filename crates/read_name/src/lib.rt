@@ -1,5 +1,7 @@
 // The name and the conditions after it at the front of a tape, as a normal print shows them (document 01, "Names",
 // "Reader"): which texts are names that an S line can enter, on which network, and where the name ends.
+#![tactic(auto)]
+
 ghost use Rattle.std.specs.Prelude.{◌≡◌, ◌&&◌, ◌||◌, not, ◌≤◌, length};
 ghost use Rattle.text.specs.Bytes.{bytes};
 ghost use Rattle.text.specs.Reading.{heads, starts};
@@ -12,7 +14,7 @@ ghost use Rattle.read_name.specs.Head.{letters_after, sold_in, after_in, name_co
 use rules::Letters;
 
 // The conditions after a name, as letters, or none.
-#[derive(Drop)]
+#[derive(Clone, Copy)]
 pub enum AfterAnswer {
     After(Letters),
     NoAfter,
@@ -20,7 +22,7 @@ pub enum AfterAnswer {
 
 // A name at the front: its length, the bytes used with the conditions after it, those conditions, and on which networks an
 // S line can enter it.
-#[derive(Drop)]
+#[derive(Clone, Copy)]
 pub struct NameRead {
     pub length: usize,
     pub used: usize,
@@ -29,20 +31,20 @@ pub struct NameRead {
     pub b: bool,
 }
 
-#[derive(Drop)]
+#[derive(Clone, Copy)]
 pub enum NameAnswer {
     Named(NameRead),
     NoName,
 }
 
 // The head of a correcting trade: the bytes used, and the conditions after the name.
-#[derive(Drop)]
+#[derive(Clone, Copy)]
 pub struct AgainRead {
     pub used: usize,
     pub letters: Letters,
 }
 
-#[derive(Drop)]
+#[derive(Clone, Copy)]
 pub enum AgainAnswer {
     Again(AgainRead),
     NotAgain,

@@ -10,7 +10,7 @@ use reader::{CorrectionRead, PrintRead, ReadAnswer};
 use rules::{Letters, Side};
 
 // A side as numbers, 0 for none; prices in units of ten to the power -8 dollars, the letters as a set of bits.
-#[derive(Drop)]
+#[derive(Clone, Copy)]
 pub struct SideNumbers {
     pub price: u64,
     pub letters: u64,

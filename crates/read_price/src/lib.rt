@@ -8,20 +8,20 @@ ghost use Rattle.read_price.specs.Price.{fraction_at, priced_by, price_at};
 use rules::Price;
 
 // Digits, or figures with their dots: how many bytes, and their value.
-#[derive(Drop)]
+#[derive(Clone, Copy)]
 pub struct Digits {
     pub count: usize,
     pub value: u64,
 }
 
 // A price and the number of its bytes.
-#[derive(Drop)]
+#[derive(Clone, Copy)]
 pub struct PriceRead {
     pub price: Price,
     pub used: usize,
 }
 
-#[derive(Drop)]
+#[derive(Clone, Copy)]
 pub enum PriceAnswer {
     Priced(PriceRead),
     NoPrice,

@@ -12,21 +12,21 @@ use read_volume::{Volume, VolumeAnswer};
 use rules::{Letters, Price, Refusal, Side};
 
 // The volume read before on the same line, which one unit of trading must explain too: the original's, or none.
-#[derive(Drop)]
+#[derive(Clone, Copy)]
 pub enum Beside {
     Alone,
     With(Volume),
 }
 
 // A side: what is shown of its volume, and its values with the bytes used and the networks that are left.
-#[derive(Drop)]
+#[derive(Clone, Copy)]
 pub struct SideRead {
     pub volume: Volume,
     pub taken: Taken,
 }
 
 // A side, or the refusal of a place where none stands.
-#[derive(Drop)]
+#[derive(Clone, Copy)]
 pub enum SideAnswer {
     Sided(SideRead),
     Refused(Refusal),

@@ -11,14 +11,14 @@ use feed_input::Place;
 use read_tape::Reading;
 
 // `at` is the place on the tape of the first byte that is held.
-#[derive(Drop)]
+#[derive(Clone, Copy)]
 pub struct Standing {
     pub place: Place,
     pub at: u64,
 }
 
 // After a step: how many bytes of the lines are to be written, and whether it was the last.
-#[derive(Drop)]
+#[derive(Clone, Copy)]
 pub struct Stepped {
     pub standing: Standing,
     pub count: usize,

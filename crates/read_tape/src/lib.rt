@@ -10,7 +10,7 @@ use rules::LONGEST_PRINT;
 
 // Where the reading of a block stands: the bytes of the block that are read, the bytes in the lent lines, and whether it goes
 // on: not after a refusal, and not above place 9,999,999,999.
-#[derive(Drop)]
+#[derive(Clone, Copy)]
 pub struct Reading {
     pub at: usize,
     pub written: usize,

@@ -8,7 +8,7 @@ ghost use Rattle.read_volume.specs.Volume.{is_figure, figure_onto, figures_at, s
 use read_price::Digits;
 
 // What is shown of a volume: nothing, or figures with a mark.
-#[derive(Drop)]
+#[derive(Clone, Copy)]
 pub enum Volume {
     Unsaid,
     Hundreds(u64),
@@ -17,13 +17,13 @@ pub enum Volume {
 }
 
 // A volume and the number of its bytes.
-#[derive(Drop)]
+#[derive(Clone, Copy)]
 pub struct VolumeRead {
     pub volume: Volume,
     pub used: usize,
 }
 
-#[derive(Drop)]
+#[derive(Clone, Copy)]
 pub enum VolumeAnswer {
     Said(VolumeRead),
     NoVolume,

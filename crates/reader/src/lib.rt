@@ -15,7 +15,7 @@ use rules::{Letters, Refusal, Side};
 
 // A trade, cancel or error: the print's length, where in it its name begins and ends, and the side shown (its letters as a
 // print shows them: next day as M, cash as K).
-#[derive(Drop)]
+#[derive(Clone, Copy)]
 pub struct PrintRead {
     pub length: usize,
     pub from: usize,
@@ -24,7 +24,7 @@ pub struct PrintRead {
 }
 
 // A correction; the name is the first one.
-#[derive(Drop)]
+#[derive(Clone, Copy)]
 pub struct CorrectionRead {
     pub length: usize,
     pub from: usize,
@@ -34,7 +34,7 @@ pub struct CorrectionRead {
 }
 
 // What stands at a place: an announcement with its length, a trade, cancel, error or correction, or no print.
-#[derive(Drop)]
+#[derive(Clone, Copy)]
 pub enum ReadAnswer {
     Announcement(usize),
     Trade(PrintRead),

@@ -1,5 +1,6 @@
 // Document 01 as definitions. The types that code and definitions share are declared here; what they mean,
 // and every rule, is in specs/, one module a section, in the document's order.
+#![tactic(auto)]
 
 // The columns of a day line (Day lines).
 pub const WIDTH: usize = 100;
@@ -23,7 +24,7 @@ pub const NAME_WIDTH: usize = 19;
 pub const LONGEST_PRINT: usize = 400;
 
 // What stands in a number's columns (Day lines).
-#[derive(Drop)]
+#[derive(Clone, Copy)]
 pub enum Number {
     Blank,
     Bad,
@@ -31,7 +32,7 @@ pub enum Number {
 }
 
 // The mode in force (Day lines, M).
-#[derive(Drop)]
+#[derive(Clone, Copy)]
 pub enum Mode {
     Normal,
     Dvd,
@@ -40,21 +41,21 @@ pub enum Mode {
 }
 
 // n over ten to the power d (Day lines).
-#[derive(Drop)]
+#[derive(Clone, Copy)]
 pub struct Price {
     pub n: u64,
     pub d: u64,
 }
 
 // How the whole part of a price is written (Price and conditions): in full, or short, its units digit alone.
-#[derive(Drop)]
+#[derive(Clone, Copy)]
 pub enum PriceForm {
     Full,
     Short,
 }
 
 // The condition letters of a side, each there or not (Price and conditions).
-#[derive(Drop)]
+#[derive(Clone, Copy)]
 pub struct Letters {
     pub o: bool,
     pub s: bool,
@@ -71,7 +72,7 @@ pub struct Letters {
 }
 
 // One side of a T, X, E or C line, from its volume to its previous last. Days and previous last are 0 where blank.
-#[derive(Drop)]
+#[derive(Clone, Copy)]
 pub struct Side {
     pub volume: u64,
     pub price: Price,
@@ -81,7 +82,7 @@ pub struct Side {
 }
 
 // An S line, its name apart. `lawful` is false where refusal 8 stops it.
-#[derive(Drop)]
+#[derive(Clone, Copy)]
 pub struct Listing {
     pub number: u64,
     pub unit: u64,
@@ -92,7 +93,7 @@ pub struct Listing {
 }
 
 // A T, X or E line. `lawful` is false where its letters alone call for refusal 10, `matched` where 11 stops it.
-#[derive(Drop)]
+#[derive(Clone, Copy)]
 pub struct Trade {
     pub security: u64,
     pub market: u64,
@@ -102,7 +103,7 @@ pub struct Trade {
 }
 
 // A C line; `lawful` and `matched` are of both sides.
-#[derive(Drop)]
+#[derive(Clone, Copy)]
 pub struct Correction {
     pub security: u64,
     pub market: u64,
@@ -113,7 +114,7 @@ pub struct Correction {
 }
 
 // A line of one of the nine kinds (Day lines).
-#[derive(Drop)]
+#[derive(Clone, Copy)]
 pub enum Line {
     Dated(u64),
     Listed(Listing),
@@ -127,7 +128,7 @@ pub enum Line {
 }
 
 // A line of a known kind: each field in its form (refusal 4), each number within its values (refusal 5), and the line.
-#[derive(Drop)]
+#[derive(Clone, Copy)]
 pub struct Parsed {
     pub formed: bool,
     pub ranged: bool,
@@ -135,7 +136,7 @@ pub struct Parsed {
 }
 
 // Why a line or a tape is not taken (Lines not taken).
-#[derive(Drop)]
+#[derive(Clone, Copy)]
 pub enum Refusal {
     Shape,
     Kind,
@@ -154,7 +155,7 @@ pub enum Refusal {
 }
 
 // The settings of a day; the date is 0 before a D line is accepted.
-#[derive(Drop)]
+#[derive(Clone, Copy)]
 pub struct Settings {
     pub date: u64,
     pub mode: Mode,
@@ -163,7 +164,7 @@ pub struct Settings {
 }
 
 // What the S line of a security says, its name apart. The unit is 0 where none is entered.
-#[derive(Drop)]
+#[derive(Clone, Copy)]
 pub struct Issue {
     pub unit: u64,
     pub network: u64,
@@ -172,13 +173,13 @@ pub struct Issue {
 }
 
 // The last printed trade of a security's day: its price in units of ten to the power -8 dollars, 0 for none.
-#[derive(Drop)]
+#[derive(Clone, Copy)]
 pub struct Printed {
     pub price: u64,
 }
 
 // High, low and last of a security's day, in the same units, 0 for none.
-#[derive(Drop)]
+#[derive(Clone, Copy)]
 pub struct Range {
     pub high: u64,
     pub low: u64,
@@ -187,7 +188,7 @@ pub struct Range {
 
 // How many T lines of a security were accepted that day, of them qualifying for last, and on its primary market. Each count
 // stops where it no longer matters: 5, 1 and 6.
-#[derive(Drop)]
+#[derive(Clone, Copy)]
 pub struct Counts {
     pub trades: u64,
     pub qualified: u64,
@@ -195,7 +196,7 @@ pub struct Counts {
 }
 
 // What a day holds of a security, its name apart, in parts: a rule moves one and passes on the others.
-#[derive(Drop)]
+#[derive(Clone, Copy)]
 pub struct Security {
     pub issue: Issue,
     pub printed: Printed,

@@ -1,5 +1,7 @@
 // Texts: bytes and numbers in base ten, written to the rest of a tape. Each writer is lent a mutable part that begins
 // after the bytes already written, puts its text at the part's start and returns the text's length.
+#![tactic(auto)]
+
 ghost use Rattle.std.specs.Prelude.{◌≡◌, ◌≤◌, length};
 ghost use Rattle.text.specs.Pick.{opt, same};
 ghost use Rattle.text.specs.Put.{Written};

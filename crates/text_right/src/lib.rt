@@ -1,4 +1,6 @@
 // Numbers, right-justified in a width.
+#![tactic(auto)]
+
 ghost use Rattle.std.specs.Prelude.{◌≡◌, ◌-◌, ◌≤◌, length, replicate};
 ghost use Rattle.text.specs.Put.{Written};
 ghost use Rattle.text_right.specs.Justified.{right};

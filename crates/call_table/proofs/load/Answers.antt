@@ -1,0 +1,6 @@
+use Rattle.call_table.proofs.Parts.{loaded}
+use borrow.Author.Rules.{rules}
+use Rattle.call_table.proofs.load.Goals as goal
+
+pub returns : goal.returns
+returns c = search loaded

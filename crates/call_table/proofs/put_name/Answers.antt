@@ -1,0 +1,6 @@
+use Rattle.call_table.proofs.Places.{placed}
+use borrow.Author.Rules.{rules}
+use Rattle.call_table.proofs.put_name.Goals as goal
+
+pub returns : goal.returns
+returns c = search placed

@@ -1,0 +1,6 @@
+use Rattle.call_table.proofs.Parts.{stored}
+use borrow.Author.Rules.{rules}
+use Rattle.call_table.proofs.store.Goals as goal
+
+pub returns : goal.returns
+returns c = search stored

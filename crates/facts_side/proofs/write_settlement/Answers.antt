@@ -1,0 +1,20 @@
+use Rattle.text.proofs.Writing.{rooms, then}
+use Rattle.facts_side.specs.Sides.{settlement_letters}
+use borrow.Author.Rules.{rules}
+use Rattle.facts_side.proofs.write_settlement.Goals as goal
+
+pub write_optional-a-requires : goal.write_optional-a-requires
+unfolding settlement_letters
+write_optional-a-requires c = search rooms depth 24
+
+pub write_optional-requires : goal.write_optional-requires
+unfolding settlement_letters
+write_optional-requires c = search rooms depth 24
+
+pub write_optional-requires-2 : goal.write_optional-requires-2
+unfolding settlement_letters
+write_optional-requires-2 c = search rooms depth 24
+
+pub returns : goal.returns
+unfolding settlement_letters
+returns c = search then

@@ -1,0 +1,13 @@
+use Prim.Native.Nat.{◌-◌}
+use mathlib.Core.Path.{◌≡◌, refl}
+use lib.ListN.{length}
+use Rattle.feed_blocks.specs.Lines.{line_end}
+use Rattle.feed_blocks.proofs.Scan.{near_step}
+use borrow.Author.Rules.{rules}
+use Rattle.feed_blocks.proofs.line_near.Goals as goal
+
+pub loop-i-init : goal.loop-i-init
+loop-i-init c = refl
+
+pub loop-i-preserved : goal.loop-i-preserved
+loop-i-preserved c = search near_step

@@ -1,0 +1,15 @@
+-- The loop's invariant: acc is worth the columns before i. Assumes nothing.
+use borrow.Author.Rules.{rules}
+use Prim.Native.Nat.{◌+◌, ◌-◌, ◌*◌, ◌^◌, ◌≤◌}
+use native.Mathlib.Omega.{arith}
+use mathlib.Core.Path.{◌≡◌, refl}
+use lib.ListN.{length, drop}
+use Rattle.line_columns.specs.Columns.{worth_of}
+use Rattle.line_columns.proofs.Numbers.{worth_more, worth_all, worth_small, worth_grows}
+use Rattle.line_columns.proofs.worth.Given as goal
+
+abbrev pub invariant-loop-i : goal.invariant-loop-i
+invariant-loop-i l = (l.i ≤ length l.field) × (worth_of l.acc (drop l.i l.field) ≡ worth_of 0 l.field) × (l.acc + 2 ≤ 2 * 10 ^ l.i)
+
+abbrev pub decreases-loop-i : goal.decreases-loop-i
+decreases-loop-i l = length l.field - l.i

@@ -1,0 +1,16 @@
+-- The loop's invariant: the text is one of those left in the table from k on, if it is listed at all. Assumes nothing.
+use borrow.Author.Rules.{rules}
+use Prim.Native.Nat.{ℕ, suc, ◌+◌, ◌-◌, ◌*◌, ◌≤◌, ◌<◌}
+use native.Mathlib.Omega.{arith}
+use mathlib.Core.Path.{◌≡◌, refl, sym, ap, ◌∙◌}
+use lib.ListN.{length, drop}
+use Rattle.text.specs.Pick.{member}
+use Rattle.rules.specs.Names.{listed_suffixes}
+use Rattle.name_suffix.proofs.Listed.{left, table_bytes, table_lengths, whole, too_short, hit, miss, missed, length_le}
+use Rattle.name_suffix.proofs.is_listed.Given as goal
+
+abbrev pub invariant-loop-k : goal.invariant-loop-k
+invariant-loop-k l = (l.k ≤ 42) × (l.bytes ≡ table_bytes) × (l.lengths ≡ table_lengths) × (member l.text (left l.k) ≡ member l.text listed_suffixes)
+
+abbrev pub decreases-loop-k : goal.decreases-loop-k
+decreases-loop-k l = 42 - l.k

@@ -1,0 +1,6 @@
+use Rattle.name_words.proofs.Fields.{justified}
+use borrow.Author.Rules.{rules}
+use Rattle.name_words.proofs.is_left_justified.Goals as goal
+
+pub returns : goal.returns
+returns c = search justified

@@ -1,0 +1,15 @@
+-- The loop's invariant: i bytes of the field are passed, none of them a blank. Assumes nothing.
+use borrow.Author.Rules.{rules}
+use Prim.Native.Nat.{ℕ, suc, ◌+◌, ◌-◌, ◌*◌, ◌≤◌, ◌<◌}
+use mathlib.Core.Path.{◌≡◌, refl, sym, ap, ◌∙◌}
+use mathlib.Core.List.{◌++◌}
+use lib.ListN.{length, take, drop}
+use Rattle.rules.specs.Columns.{word}
+use Rattle.name_words.proofs.Fields.{passed, at_blank, at_end}
+use Rattle.name_words.proofs.word_length.Given as goal
+
+abbrev pub invariant-loop-i : goal.invariant-loop-i
+invariant-loop-i l = (l.i ≤ length l.field) × (word l.field ≡ take l.i l.field ++ word (drop l.i l.field))
+
+abbrev pub decreases-loop-i : goal.decreases-loop-i
+decreases-loop-i l = length l.field - l.i

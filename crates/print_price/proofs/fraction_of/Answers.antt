@@ -1,0 +1,6 @@
+use Rattle.print_price.proofs.Texts.{fraction_is}
+use borrow.Author.Rules.{rules}
+use Rattle.print_price.proofs.fraction_of.Goals as goal
+
+pub returns : goal.returns
+returns c = search fraction_is

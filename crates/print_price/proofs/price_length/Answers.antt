@@ -1,0 +1,8 @@
+use Rattle.text.proofs.Writing.{length_joined}
+use Rattle.print_price.proofs.Texts.{priced_length}
+use Rattle.rules.specs.Price.{price_text}
+use borrow.Author.Rules.{rules}
+use Rattle.print_price.proofs.price_length.Goals as goal
+
+pub returns : goal.returns
+returns c = (search priced_length, search rules)

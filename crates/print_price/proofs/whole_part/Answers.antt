@@ -1,0 +1,6 @@
+use Rattle.print_price.proofs.Texts.{whole_is}
+use borrow.Author.Rules.{rules}
+use Rattle.print_price.proofs.whole_part.Goals as goal
+
+pub returns : goal.returns
+returns c = search whole_is

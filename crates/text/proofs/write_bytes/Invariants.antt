@@ -1,0 +1,19 @@
+-- The loop's invariant: the first i bytes of the text, then the tape's own. Assumes nothing.
+use borrow.Author.Rules.{rules}
+use Prim.Native.Nat.{ℕ, suc, ◌+◌, ◌-◌, ◌*◌, ◌^◌, ◌≤◌, ◌<◌}
+use native.Mathlib.Omega.{arith}
+use native.Mathlib.Numerals.{add-one}
+use native.Mathlib.Nat.{le_antisymm}
+use mathlib.Core.Path.{◌≡◌, refl, sym, ap, ◌∙◌}
+use mathlib.Core.List.{◌++◌}
+use lib.ListN.{length, take, drop, length-set}
+use lib.Seq.{take_all}
+use Rattle.text.specs.Put.{put, Written}
+use Rattle.text.proofs.Writing.{store}
+use Rattle.text.proofs.write_bytes.Given as goal
+
+abbrev pub invariant-loop-i : goal.invariant-loop-i
+invariant-loop-i l = (l.i ≤ length l.text) × (l.rest ≡ take l.i l.text ++ drop l.i l.initial.rest) × (length l.rest ≡ length l.initial.rest)
+
+abbrev pub decreases-loop-i : goal.decreases-loop-i
+decreases-loop-i l = length l.text - l.i
