@@ -1,5 +1,7 @@
 // What a line asks for: the refusal of 1 to 12 that stops it, by number, or what it prints and stores. Securities and names
 // stand in lent tables; a line is any bytes of any length.
+#![tactic(auto)]
+
 ghost use Rattle.std.specs.Prelude.{◌≡◌, ◌-◌, ◌≤◌, ◌<◌, ◌&&◌, not, eqb, length};
 ghost use Rattle.rules.specs.Sizes.{width, name_width, security_places};
 ghost use Rattle.rules.specs.Line.{is_shaped, is_kind};

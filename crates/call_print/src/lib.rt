@@ -1,5 +1,7 @@
 // The print of a plan (document 01, "Tape characters", "Lines not taken"): its length, whether it fits the lent tape (13), and
 // its writer, which is lent the rest of the tape. Names stand in a lent table.
+#![tactic(auto)]
+
 ghost use Rattle.std.specs.Prelude.{◌≡◌, ◌≤◌, false, length};
 ghost use Rattle.text.specs.Put.{Written};
 ghost use Rattle.rules.specs.Names.{name_text};

@@ -1,4 +1,6 @@
 // The state after a plan (document 01, "Day lines"): the settings and every byte of both tables.
+#![tactic(auto)]
+
 ghost use Rattle.std.specs.Prelude.{◌≡◌};
 ghost use Rattle.rules.specs.Day.{opened};
 ghost use Rattle.call_print.specs.Print.{SoundPlan};

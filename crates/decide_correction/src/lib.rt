@@ -1,5 +1,7 @@
 // Which corrections print and how, how cancels and errors print, and what a correction leaves of its security (document 01,
 // Corrections and cancels). Settings and securities may hold any numbers.
+#![tactic(auto)]
+
 ghost use Rattle.std.specs.Prelude.{◌≡◌, ◌&&◌, ◌||◌, not, eqb, leb};
 ghost use Rattle.rules.specs.Price.{whole_part, units};
 ghost use Rattle.rules.specs.Conditions.{has_rule};

@@ -1,5 +1,7 @@
 // What the decisions of the modes compare (document 01, "Trades by mode"): first-day issues, the level, a new high or low, a
 // price unlike the last printed one or far from it, tens and zeros.
+#![tactic(auto)]
+
 ghost use Rattle.std.specs.Prelude.{◌≡◌, not, ◌+◌, ◌*◌, ◌<◌, eqb, ltb};
 ghost use Rattle.text.specs.Pick.{pick};
 ghost use Rattle.rules.specs.Trade.{six, at_level, first_qualifying, new_high, new_low, new_range, tens, ends_in_zero, dollars, unlike_printed, far_from_printed, is_normal};

@@ -2,6 +2,8 @@
 // decided over what they ask of a trade, each worked out once by the caller: its volume, its price in units (`value`), its whole
 // part, whether it qualifies for range (`ranges`) and for last (`lasts`), whether it has J or G (`rule`). Settings and securities
 // may hold any numbers.
+#![tactic(auto)]
+
 ghost use Rattle.std.specs.Prelude.{◌≡◌, ◌&&◌, ◌+◌, ◌<◌};
 ghost use Rattle.text.specs.Pick.{pick};
 ghost use Rattle.rules.specs.Price.{units, form_by};

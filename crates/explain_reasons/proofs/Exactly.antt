@@ -50,8 +50,8 @@ trade_printed st s market x = go st.mode refl
     go : (m : Mode) → st.mode ≡ m → some_print (trade_prints st s market x) ≡ prints_trade st s market x
     go Normal h = ap some_print (sym (in_normal_lem st.mode always _ _ _ _ h refl)) ∙ (always_given ∙ values.prints_normal st s market x h)
     go Dvd h = ap some_print (sym (in_dvd st.mode always _ _ _ _ h refl)) ∙ (always_given ∙ values.prints_dvd st s market x h)
-    go Rpo h = ap some_print (sym (in_rpo st.mode (rpo_trade st s market x) _ _ _ _ h refl)) ∙ values.prints-rpo st s market x _ h (rpo_exactly st s market x)
-    go Mpv h = ap some_print (sym (in_mpv st.mode (mpv_trade st s market x) _ _ _ _ h refl)) ∙ values.prints-mpv st s market x _ h (mpv_exactly st s market x)
+    go Rpo h = ap some_print (sym (in_rpo st.mode (rpo_trade st s market x) _ _ _ _ h refl)) ∙ values.prints_rpo_lem st s market x _ h (rpo_exactly st s market x)
+    go Mpv h = ap some_print (sym (in_mpv st.mode (mpv_trade st s market x) _ _ _ _ h refl)) ∙ values.prints_mpv_lem st s market x _ h (mpv_exactly st s market x)
 
 full_exactly : (none tens zero unit thousand six : Bool) → (none || ((not none && tens) || (zero || (unit || (thousand || (six || false)))))) ≡ (none || (tens || (zero || (unit || (thousand || six)))))
 full_exactly true tens zero unit thousand six = refl
@@ -118,8 +118,8 @@ correction_printed st s x y = go st.mode refl
     go : (m : Mode) → st.mode ≡ m → some_print (correction_prints st s x y) ≡ prints_correction st s x y
     go Normal h = ap some_print (sym (in_normal_lem st.mode always _ _ _ _ h refl)) ∙ (always_given ∙ corrected.prints_normal st s x y h)
     go Dvd h = ap some_print (sym (in_dvd st.mode (dvd_correction st s x y) _ _ _ _ h refl)) ∙ corrected.prints_dvd st s x y _ h (in_dvd_exactly st s x y)
-    go Rpo h = ap some_print (sym (in_rpo st.mode (later_correction st s x y false) _ _ _ _ h refl)) ∙ corrected.prints-rpo st s x y _ h (in_later_exactly st s x y false)
-    go Mpv h = ap some_print (sym (in_mpv st.mode (later_correction st s x y (has_rule x.letters)) _ _ _ _ h refl)) ∙ corrected.prints-mpv st s x y _ h (in_later_exactly st s x y (has_rule x.letters))
+    go Rpo h = ap some_print (sym (in_rpo st.mode (later_correction st s x y false) _ _ _ _ h refl)) ∙ corrected.prints_rpo_lem st s x y _ h (in_later_exactly st s x y false)
+    go Mpv h = ap some_print (sym (in_mpv st.mode (later_correction st s x y (has_rule x.letters)) _ _ _ _ h refl)) ∙ corrected.prints_mpv_lem st s x y _ h (in_later_exactly st s x y (has_rule x.letters))
 
 corrected_full : (tens unit whole original : Bool) → (tens || (unit || (whole || original))) ≡ (unit || (original || (whole || tens)))
 corrected_full true unit whole original = simp or_true

@@ -1,5 +1,7 @@
 // Why an accepted trade, correction, cancel or error prints, why its price is in full and why its volume is shown. A reason is
 // one test of document 01, true in the modes that ask it. Settings and securities may hold any numbers.
+#![tactic(auto)]
+
 ghost use Rattle.std.specs.Prelude.{◌≡◌, Bool, true, ◌&&◌, ◌||◌, not};
 ghost use Rattle.rules.specs.Price.{whole_part, units};
 ghost use Rattle.rules.specs.Qualifying.{for_range};

@@ -5,6 +5,8 @@
 // What prints: every high low price distance first six level unit rule differ seller last original-level original-rule.
 // Full price, `short` where there is no reason: normal none tens zero unit thousand six whole original.
 // Volume, `off` where there is no reason: normal level first six rule.
+#![tactic(auto)]
+
 ghost use Rattle.std.specs.Prelude.{◌≡◌, ◌||◌, ◌≤◌, length};
 ghost use Rattle.text.specs.Put.{Written};
 ghost use Rattle.explain_reasons.specs.Reasons.{some_full, some_volume};

@@ -3,6 +3,8 @@
 //
 //     take_in   the answer of a read: bytes came, the input is at its end, or the read failed
 //     go_on     so many bytes are used; where a read comes next, what is left of them goes to the block's front
+#![tactic(auto)]
+
 ghost use Rattle.std.specs.Prelude.{◌≡◌, ◌+◌, ◌≤◌, min, length};
 ghost use Rattle.text.specs.Put.{put};
 ghost use Rattle.feed_input.specs.Place.{opening, came_of, is_failure, taken_in, held_from, front_from, GoesOn};

@@ -1,5 +1,7 @@
 // A day line, read from its columns (document 01, Day lines): each field in its form, each number within its values,
 // and the line as a value. What needs the day's state is not asked here.
+#![tactic(auto)]
+
 ghost use Rattle.std.specs.Prelude.{◌≡◌, length};
 ghost use Rattle.rules.specs.Sizes.{width};
 ghost use Rattle.rules.specs.Columns.{column};

@@ -1,4 +1,6 @@
 // Condition letters in a field of four columns (document 01, "Day lines", "Price and conditions"): formed, as a set, lawful together.
+#![tactic(auto)]
+
 ghost use Rattle.std.specs.Prelude.{◌≡◌, true, [], ◌∷◌, ◌≤◌, ◌<◌, length, get_or, drop};
 ghost use Rattle.text.specs.Pick.{among};
 ghost use Rattle.text.specs.Reading.{span};

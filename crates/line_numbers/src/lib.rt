@@ -1,4 +1,6 @@
 // The numbers of a day line's fields: read, and asked whether they are within their values (document 01, Day lines).
+#![tactic(auto)]
+
 ghost use Rattle.std.specs.Prelude.{◌≡◌, ◌≤◌, length, drop, leb};
 ghost use Rattle.rules.specs.Columns.{justified, digits_from, number_in, is_number, number_or_blank, value_of, passes, between, is_leap, days_in, is_date};
 ghost use Rattle.rules.specs.Line.{is_price, previous_ranged, is_security_number, is_unit};

@@ -1,5 +1,7 @@
 // The lines that set up a day, D, S, M, V and P, read from their columns (document 01, Day lines): each field in its
 // form, each number within its values, and the line as a value. What needs the day's state is not asked here.
+#![tactic(auto)]
+
 ghost use Rattle.std.specs.Prelude.{◌≡◌, length};
 ghost use Rattle.rules.specs.Sizes.{width};
 ghost use Rattle.line_setup.specs.Setup.{listing_formed_by, listing_ranged_by, date_read, listing_read, mode_read, level_read, step_read};

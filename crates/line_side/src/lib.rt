@@ -1,5 +1,7 @@
 // One side of a T, X, E or C line, read from its 46 columns (document 01, Day lines): each field in its form, each number
 // within its values, and the side as a value. What needs the day's state is not asked here.
+#![tactic(auto)]
+
 ghost use Rattle.std.specs.Prelude.{◌≡◌, ◌≤◌, true, ◌&&◌, length};
 ghost use Rattle.rules.specs.Columns.{columns, blank, number_in, is_number};
 ghost use Rattle.rules.specs.Line.{alike};

@@ -1,4 +1,6 @@
 // A T line read by itself: all that can be said of it without the day's state.
+#![tactic(auto)]
+
 ghost use Rattle.std.specs.Prelude.{◌≡◌, true, ◌&&◌, length, get_or, eqb};
 ghost use Rattle.rules.specs.Sizes.{width};
 ghost use Rattle.rules.specs.Conditions.{letters_formed};

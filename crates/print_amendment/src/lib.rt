@@ -1,6 +1,8 @@
 // Corrections, cancels and errors as texts (document 01, "Corrections and cancels"): the length of each and its writer,
 // which is lent the rest of the tape. Their sides are those of trades, each with the columns that it stands in; a name is its
 // columns.
+#![tactic(auto)]
+
 ghost use Rattle.std.specs.Prelude.{◌≡◌, false, ◌+◌, ◌≤◌, length};
 ghost use Rattle.text.specs.Pick.{pick, opt};
 ghost use Rattle.text.specs.Put.{Written};

@@ -1,5 +1,7 @@
 // The conditions of a side as texts (document 01, "Price and conditions"): after the name and after the price; the length
 // of each and its writer, which is lent the rest of the tape. Those at the end: crate `ending`.
+#![tactic(auto)]
+
 ghost use Rattle.std.specs.Prelude.{◌≡◌, ◌≤◌, ◌||◌, length};
 ghost use Rattle.text.specs.Bytes.{bytes};
 ghost use Rattle.text.specs.Pick.{opt};

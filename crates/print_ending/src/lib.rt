@@ -1,5 +1,7 @@
 // The conditions at the end of a side as a text (document 01, "Price and conditions"): SELLER and its days, RULE127, the
 // previous last; its length and its writer, which is lent the rest of the tape.
+#![tactic(auto)]
+
 ghost use Rattle.std.specs.Prelude.{◌≡◌, ◌≤◌, length};
 ghost use Rattle.text.specs.Pick.{opt};
 ghost use Rattle.text.specs.Put.{Written};

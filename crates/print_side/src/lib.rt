@@ -1,5 +1,7 @@
 // One side of a trade, cancel, error or correction as a text (document 01, "Trades by mode"): its length and its writer,
 // which is lent the rest of the tape. The same for every kind, unit and network.
+#![tactic(auto)]
+
 ghost use Rattle.std.specs.Prelude.{◌≡◌, ◌+◌, ◌≤◌, length, false, []};
 ghost use Rattle.text.specs.Pick.{opt};
 ghost use Rattle.text.specs.Put.{Written};

@@ -1,5 +1,7 @@
 // The announcement at a place of a tape (document 01, "Announcements", "Reader"): the texts that the engine writes, compared
 // with what stands there.
+#![tactic(auto)]
+
 ghost use Rattle.std.specs.Prelude.{◌≡◌, ◌+◌, ◌*◌, ◌≤◌, ◌<◌, ◌^◌, length};
 ghost use Rattle.read_announcement.specs.Announced.{with_digit, digits_in, number_at, length_at, minimum_at, level_at, announced_in, announced_length};
 

@@ -1,5 +1,7 @@
 // The conditions after a price and at the end of a print, taken one after the other from a part of a tape (document 01,
 // "Price and conditions", "Reader"). Each step takes its text if it stands there and a line may have it.
+#![tactic(auto)]
+
 ghost use Rattle.std.specs.Prelude.{◌≡◌, ◌+◌, ◌≤◌, ◌<◌, length, drop};
 ghost use Rattle.text.specs.Reading.{starts};
 ghost use Rattle.read_price.specs.declared.PriceAnswer.TheVariants.{Priced};

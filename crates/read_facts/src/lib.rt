@@ -1,5 +1,7 @@
 // A tape to the lines of its facts (document 01, "Reader"): place, length, undivided name and facts of each print, as read_told
 // writes them; a block of the tape, and a step of the program that reads it in blocks.
+#![tactic(auto)]
+
 ghost use Rattle.std.specs.Prelude.{◌+◌, ◌-◌, ◌≤◌, length};
 ghost use Rattle.read_tape.specs.Block.{block_read, Stands, Steps};
 ghost use Rattle.read_told.specs.Lines.{print_line};

@@ -1,4 +1,6 @@
 // What the reader tells of a place of a tape, as fourteen numbers: the print's length, its name's place in it and its facts.
+#![tactic(auto)]
+
 ghost use Rattle.std.specs.Prelude.{◌≡◌, ◌∷◌, ◌-◌, ◌≤◌};
 ghost use Rattle.text.specs.Pick.{pick};
 ghost use Rattle.reader.specs.Read.{read_at};

@@ -1,5 +1,7 @@
 // Prices and volumes at the front of a tape, as a normal print shows them (document 01, "Volume", "Price and conditions",
 // "Reader"). Each function looks at no more bytes than the longest text that it can find.
+#![tactic(auto)]
+
 ghost use Rattle.std.specs.Prelude.{◌≡◌, ◌*◌, ◌^◌, ◌≤◌, ◌<◌};
 ghost use Rattle.text.specs.Reading.{starts};
 ghost use Rattle.read_price.specs.Digits.{digits_at};

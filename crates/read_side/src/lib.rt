@@ -1,5 +1,7 @@
 // A side of a normal print behind its head, at the front of a part of a tape (document 01, "Reader"): volume, price and
 // conditions, with the networks on which one line could print it. One reader for T, C, X and E.
+#![tactic(auto)]
+
 ghost use Rattle.std.specs.Prelude.{◌≡◌, ◌&&◌, ◌||◌, ◌≤◌, length, drop};
 ghost use Rattle.text.specs.Pick.{pick};
 ghost use Rattle.read_price.specs.Price.{price_at};

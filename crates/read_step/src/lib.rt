@@ -3,6 +3,8 @@
 //
 //     step        of the reader's program: place and length of each print
 //     go_further  a step's end, whatever its lines tell: over, or where the next step begins
+#![tactic(auto)]
+
 ghost use Rattle.std.specs.Prelude.{◌≡◌, true, ◌+◌, ◌≤◌, length};
 ghost use Rattle.read_tape.specs.Tape.{place_line};
 ghost use Rattle.read_step.specs.Step.{opened, is_over, Further, Steps};

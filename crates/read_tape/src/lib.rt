@@ -1,5 +1,7 @@
 // A block of a tape to the lines of the reader's program (document 01, "Reader"): place and length of each print, gathered in
 // a lent block.
+#![tactic(auto)]
+
 ghost use Rattle.std.specs.Prelude.{◌≡◌, ◌&&◌, ◌+◌, ◌-◌, ◌≤◌, leb, length};
 ghost use Rattle.text.specs.Put.{Written};
 ghost use Rattle.rules.specs.Sizes.{longest_print};

@@ -7,6 +7,8 @@
 //     X side(SIDE)        E side(SIDE)      cancel, error
 //
 // A SIDE is price=P cond=L days=Y prev=Q vol=V.
+#![tactic(auto)]
+
 ghost use Rattle.std.specs.Prelude.{◌≡◌, ◌++◌, ◌+◌, ◌≤◌, length, drop};
 ghost use Rattle.text.specs.Bytes.{bytes};
 ghost use Rattle.text.specs.Put.{Written};

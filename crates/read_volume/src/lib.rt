@@ -1,5 +1,7 @@
 // Volumes at the front of a text (document 01, "Reader"): figures and their mark, the shares they stand for, and which units
 // and networks explain them.
+#![tactic(auto)]
+
 ghost use Rattle.std.specs.Prelude.{◌≡◌, ◌*◌, ◌≤◌, ◌<◌, leb, length, drop};
 ghost use Rattle.text.specs.Pick.{pick};
 ghost use Rattle.text.specs.Reading.{heads, is_digit};

@@ -1,4 +1,6 @@
 // The reader (document 01, "Reader"): the longest normal print at a place of a tape, its undivided name and its facts.
+#![tactic(auto)]
+
 ghost use Rattle.std.specs.Prelude.{◌≡◌, true, false, ◌+◌, ◌-◌, ◌≤◌, leb, length, take, drop};
 ghost use Rattle.text.specs.Reading.{starts};
 ghost use Rattle.rules.specs.Correction.{repeats_name};

@@ -1,0 +1,6 @@
+use Rattle.call_plan.proofs.Plans.{planned_cancel}
+use borrow.Author.Rules.{rules}
+use Rattle.call_plan.proofs.cancel_of.Goals as goal
+
+pub returns : goal.returns
+returns c = search planned_cancel

@@ -1,0 +1,13 @@
+use borrow.Author.Rules.{rules}
+use Prim.Native.Nat.{ℕ, ◌-◌, ◌+◌, ◌≤◌, ◌<◌}
+use mathlib.Core.Path.{◌≡◌, refl}
+use Rattle.rules.specs.Day.{taken_name}
+use Rattle.call_table.specs.Rows.{rows_from, names_from}
+use Rattle.call_plan.proofs.Plans.{name_hit, name_miss, name_none}
+use Rattle.call_plan.proofs.is_name_taken.Given as goal
+
+abbrev pub invariant-loop-i : goal.invariant-loop-i
+invariant-loop-i l = (l.i ≤ 512) × (taken_name l.name (rows_from (512 - l.i) l.i l.table) (names_from (512 - l.i) l.i l.names) ≡ taken_name l.name (rows_from 512 0 l.table) (names_from 512 0 l.names))
+
+abbrev pub decreases-loop-i : goal.decreases-loop-i
+decreases-loop-i l = 512 - l.i

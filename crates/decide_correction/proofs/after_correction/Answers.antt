@@ -1,0 +1,6 @@
+use Rattle.decide_correction.proofs.Corrected.{corrected}
+use borrow.Author.Rules.{rules}
+use Rattle.decide_correction.proofs.after_correction.Goals as goal
+
+pub returns : goal.returns
+returns c = search corrected

@@ -1,0 +1,15 @@
+use Rattle.decide_levels.proofs.Values.{modes}
+use borrow.Author.Rules.{rules}
+use Rattle.decide_levels.proofs.is_normal.Goals as goal
+
+pub returns-in-Normal : goal.returns-in-Normal
+returns-in-Normal c = search modes
+
+pub returns-in-Dvd : goal.returns-in-Dvd
+returns-in-Dvd c = search modes
+
+pub returns-in-Rpo : goal.returns-in-Rpo
+returns-in-Rpo c = search modes
+
+pub returns-in-Mpv : goal.returns-in-Mpv
+returns-in-Mpv c = search modes

@@ -1,0 +1,20 @@
+use borrow.Author.Rules.{rules}
+use Prim.Native.Nat.{ℕ, suc, ◌+◌, ◌-◌, ◌*◌, ◌^◌, ◌≤◌, ◌<◌}
+use mathlib.Core.Path.{◌≡◌, refl, sym, ap, ◌∙◌}
+use lib.ListN.{length, drop}
+use Rattle.text.specs.Reading.{span}
+use Rattle.rules.specs.Conditions.{is_condition}
+use Rattle.line_fields.proofs.Texts.{span_stop, span_more, span_end}
+use Rattle.line_letters.proofs.conditions_ahead.Goals as goal
+
+pub loop-i-init : goal.loop-i-init
+loop-i-init c = (search rules, refl)
+
+pub returns-then-not-is_condition : goal.returns-then-not-is_condition
+returns-then-not-is_condition c = (search rules, search span_stop)
+
+pub loop-i-preserved : goal.loop-i-preserved
+loop-i-preserved c = (search rules, search span_more)
+
+pub returns : goal.returns
+returns c = (search rules, search span_end)

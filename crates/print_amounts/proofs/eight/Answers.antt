@@ -1,0 +1,6 @@
+use Rattle.print_amounts.proofs.Laying.{moved}
+use borrow.Author.Rules.{rules}
+use Rattle.print_amounts.proofs.eight.Goals as goal
+
+pub returns : goal.returns
+returns c = search moved

@@ -1,0 +1,9 @@
+use Rattle.text.proofs.Writing.{answers}
+use borrow.Author.Rules.{rules}
+use Rattle.print_conditions.proofs.write_cash.Goals as goal
+
+pub write_optional-requires : goal.write_optional-requires
+write_optional-requires c = search answers
+
+pub returns : goal.returns
+returns c = search answers

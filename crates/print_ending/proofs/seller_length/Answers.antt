@@ -1,0 +1,12 @@
+use Rattle.text.proofs.Writing.{options, length_joined}
+use Rattle.rules.specs.Conditions.{seller_text}
+use borrow.Author.Rules.{rules}
+use Rattle.print_ending.proofs.seller_length.Goals as goal
+
+pub returns-then-r : goal.returns-then-r
+unfolding seller_text
+returns-then-r c = (search (options, length_joined), search rules)
+
+pub returns : goal.returns
+unfolding seller_text
+returns c = (search (options, length_joined), search rules)

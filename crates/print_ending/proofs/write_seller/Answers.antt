@@ -1,0 +1,12 @@
+use Rattle.text.proofs.Writing.{options}
+use borrow.Author.Rules.{rules}
+use Rattle.print_ending.proofs.write_seller.Goals as goal
+
+pub write_days-requires : goal.write_days-requires
+write_days-requires c = search options
+
+pub returns-then-r : goal.returns-then-r
+returns-then-r c = search options
+
+pub returns : goal.returns
+returns c = search options

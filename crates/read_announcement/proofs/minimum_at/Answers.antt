@@ -1,0 +1,23 @@
+use Rattle.read_announcement.specs.Announced.{minimum_at}
+use Rattle.read_announcement.proofs.Reading.{cut_length, by}
+use Rattle.read_announcement.proofs.Back.{minimum_fits}
+use borrow.Author.Rules.{rules}
+use Rattle.read_announcement.proofs.minimum_at.Goals as goal
+
+pub returns-then-minimum-lt1 : goal.returns-then-minimum-lt1
+unfolding minimum_at
+returns-then-minimum-lt1 c = search by
+
+pub returns-then-minimum-gt100 : goal.returns-then-minimum-gt100
+unfolding minimum_at
+returns-then-minimum-gt100 c = search by
+
+pub write_minimum-n-requires : goal.write_minimum-n-requires
+write_minimum-n-requires c = search minimum_fits
+
+pub slice_bounds-text_at-end : goal.slice_bounds-text_at-end
+slice_bounds-text_at-end c = search cut_length
+
+pub returns : goal.returns
+unfolding minimum_at
+returns c = search by

@@ -1,0 +1,6 @@
+use Rattle.read_numbers.proofs.Arms.{letters_are}
+use borrow.Author.Rules.{rules}
+use Rattle.read_numbers.proofs.letters_number.Goals as goal
+
+pub returns : goal.returns
+returns c = search letters_are

@@ -1,0 +1,6 @@
+use Rattle.read_numbers.proofs.Arms.{side_is}
+use borrow.Author.Rules.{rules}
+use Rattle.read_numbers.proofs.side_numbers.Goals as goal
+
+pub returns : goal.returns
+returns c = search side_is

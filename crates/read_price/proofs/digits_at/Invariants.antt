@@ -1,0 +1,14 @@
+use Prim.Native.Nat.{ℕ, suc, ◌+◌, ◌-◌, ◌*◌, ◌^◌, ◌≤◌, ◌<◌}
+use native.Mathlib.Omega.{arith}
+use mathlib.Core.Path.{◌≡◌, refl, sym, ap, ◌∙◌}
+use lib.ListN.{length, drop}
+use Rattle.read_price.specs.Digits.{digits_onto}
+use Rattle.read_price.proofs.Front.{digits_start, digits_ended, digits_low, digits_high, digits_more, digits_most, ten_fits, more_fits, grows}
+use borrow.Author.Rules.{rules}
+use Rattle.read_price.proofs.digits_at.Given as goal
+
+abbrev pub invariant-loop-i : goal.invariant-loop-i
+invariant-loop-i l = (l.i ≤ l.most) × (digits_onto (l.most - l.i) l.value l.i (drop l.i l.s) ≡ digits_onto l.most 0 0 l.s) × (l.value < 10 ^ l.i)
+
+abbrev pub decreases-loop-i : goal.decreases-loop-i
+decreases-loop-i l = l.most - l.i

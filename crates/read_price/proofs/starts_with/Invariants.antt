@@ -1,0 +1,14 @@
+use Prim.Native.Nat.{ℕ, suc, ◌+◌, ◌-◌, ◌*◌, ◌^◌, ◌≤◌, ◌<◌}
+use native.Mathlib.Omega.{arith}
+use mathlib.Core.Path.{◌≡◌, refl, sym, ap, ◌∙◌}
+use lib.ListN.{length, drop}
+use Rattle.text.specs.Reading.{starts}
+use Rattle.read_price.proofs.Front.{start_short, start_differs, start_more, start_all}
+use borrow.Author.Rules.{rules}
+use Rattle.read_price.proofs.starts_with.Given as goal
+
+abbrev pub invariant-loop-i : goal.invariant-loop-i
+invariant-loop-i l = (l.i ≤ length l.p) × (starts (drop l.i l.p) (drop l.i l.s) ≡ starts l.p l.s)
+
+abbrev pub decreases-loop-i : goal.decreases-loop-i
+decreases-loop-i l = length l.p - l.i

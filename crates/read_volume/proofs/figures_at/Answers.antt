@@ -1,0 +1,26 @@
+use Prim.Native.Nat.{ℕ, suc, ◌+◌, ◌-◌, ◌*◌, ◌^◌, ◌≤◌, ◌<◌}
+use native.Mathlib.Omega.{arith}
+use mathlib.Core.Path.{◌≡◌, refl, sym, ap, ◌∙◌}
+use lib.ListN.{length, drop}
+use Rattle.read_volume.specs.Volume.{figures_onto}
+use Rattle.read_volume.proofs.Volumes.{figures_no, figures_on, figures_small, figures_twelve, figure_there, onto_room}
+use borrow.Author.Rules.{rules}
+use Rattle.read_volume.proofs.figures_at.Goals as goal
+
+pub loop-i-init : goal.loop-i-init
+loop-i-init c = (search rules, refl, search rules)
+
+pub returns-then-not-is_figure_at : goal.returns-then-not-is_figure_at
+returns-then-not-is_figure_at c = search figures_no
+
+pub bounds-s-i : goal.bounds-s-i
+bounds-s-i c = search figure_there
+
+pub onto-value-requires : goal.onto-value-requires
+onto-value-requires c = search onto_room
+
+pub loop-i-preserved : goal.loop-i-preserved
+loop-i-preserved c = (search rules, search figures_on, search figures_small)
+
+pub returns : goal.returns
+returns c = search figures_twelve

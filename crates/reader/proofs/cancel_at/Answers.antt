@@ -1,0 +1,6 @@
+use Rattle.reader.proofs.Prints.{cancel_is}
+use borrow.Author.Rules.{rules}
+use Rattle.reader.proofs.cancel_at.Goals as goal
+
+pub returns : goal.returns
+returns c = search cancel_is

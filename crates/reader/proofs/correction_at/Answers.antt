@@ -1,0 +1,6 @@
+use Rattle.reader.proofs.Prints.{correction_is}
+use borrow.Author.Rules.{rules}
+use Rattle.reader.proofs.correction_at.Goals as goal
+
+pub returns : goal.returns
+returns c = search correction_is

@@ -1,0 +1,11 @@
+use Rattle.reader.proofs.Prints.{read_is}
+use Rattle.reader.proofs.Bounds.{past_end}
+use Rattle.reader.proofs.Numbers.{answered}
+use borrow.Author.Rules.{rules}
+use Rattle.reader.proofs.read_at.Goals as goal
+
+pub returns-then-tape-place : goal.returns-then-tape-place
+returns-then-tape-place c = search (answered, past_end)
+
+pub returns : goal.returns
+returns c = search (answered, read_is)

@@ -1,0 +1,6 @@
+use Rattle.reader.proofs.Prints.{trade_is}
+use borrow.Author.Rules.{rules}
+use Rattle.reader.proofs.trade_at.Goals as goal
+
+pub returns : goal.returns
+returns c = search trade_is
