@@ -1,5 +1,7 @@
 // A T line that is good by itself, of an entered security, carried out (document 01, "Trades by mode"): whether it prints, the
 // security after it, its print on the tape. The one way of every accepted trade, with letters or without.
+#![tactic(auto)]
+
 ghost use Rattle.std.specs.Prelude.{◌≡◌, false, ◌≤◌, ◌<◌, leb, length};
 ghost use Rattle.rules.specs.Sizes.{name_width, security_places};
 ghost use Rattle.rules.specs.Names.{name_text};

@@ -1,0 +1,6 @@
+use Rattle.call_trade.proofs.Carried.{no_rule}
+use borrow.Author.Rules.{rules}
+use Rattle.call_trade.proofs.has_rule.Goals as goal
+
+pub returns-then-not-marked : goal.returns-then-not-marked
+returns-then-not-marked c = search no_rule
