@@ -1,5 +1,7 @@
 // A block of day lines to the lines of their explanations: each line is explained, goes to the engine as a part of the block,
 // and its explanation is gathered in a lent block. A call is lent a tape of LONGEST_PRINT bytes.
+#![tactic(auto)]
+
 ghost use Rattle.std.specs.Prelude.{◌≡◌, [], ◌∷◌, ◌+◌, ◌-◌, ◌≤◌, length, take, drop};
 ghost use Rattle.feed_gather.specs.Gather.{last_line, started, room_left, lines_taken, block_taken, Stands, Tells, Steps};
 ghost use Rattle.explain_block.specs.Explains.{explain_program, explanation_room};

@@ -1,5 +1,7 @@
 // What becomes of a line and why: refused, accepted, announced, left off, or printed with the reasons. Nothing is required:
 // any line, any room, any contents of the lent tables.
+#![tactic(auto)]
+
 ghost use Rattle.std.specs.Prelude.{◌≡◌, ◌-◌, ◌≤◌};
 ghost use Rattle.rules.specs.Sizes.{security_places};
 ghost use Rattle.call_table.specs.Rows.{row, day_of};

@@ -1,5 +1,7 @@
 // A step of `explain`: the answer of a read taken in, the lines that are then held taken, and where the program stands behind
 // them.
+#![tactic(auto)]
+
 ghost use Rattle.std.specs.Prelude.{[], ◌≤◌, length};
 ghost use Rattle.feed_gather.specs.Gather.{started, Stands};
 ghost use Rattle.feed_step.specs.Step.{from_by, taken_by, Steps};

@@ -7,6 +7,8 @@
 //     left off                                          a trade or a correction that the mode leaves off
 //     printed:R:R price=full:R:R volume=shown:R:R       each reason R behind a colon (crate explain_words);
 //                                                       price=short, volume=off where there is none
+#![tactic(auto)]
+
 ghost use Rattle.std.specs.Prelude.{[], ◌∷◌, ◌≤◌, length};
 ghost use Rattle.text.specs.Put.{Written};
 ghost use Rattle.explain_text.specs.Lines.{security_text, head_text, refused_text, fate_text, line_of};

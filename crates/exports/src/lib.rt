@@ -1,5 +1,7 @@
 // The engine and the reader for C and Rust: functions on numbers and lent memory, with no `requires`. An array of fixed size
 // passes as a pointer, a slice as a pointer and its length; what is lent for writing overlaps nothing else that is lent.
+#![tactic(auto)]
+
 ghost use Rattle.std.specs.Prelude.{◌≡◌};
 ghost use Rattle.rules.specs.Day.{opened};
 ghost use Rattle.rules.specs.Shown.{shown_by};

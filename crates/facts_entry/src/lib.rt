@@ -1,5 +1,7 @@
 // The entry that a line adds to the shown facts, as a value (document 01, "Shown facts and the whole day"): what is shown of an
 // accepted line that prints. Nothing is required: any line, any room, any contents of the lent tables.
+#![tactic(auto)]
+
 ghost use Rattle.std.specs.Prelude.{◌≡◌, ◌&&◌, ℕ, ◌≤◌, ◌<◌};
 ghost use Rattle.rules.specs.Sizes.{security_places};
 ghost use Rattle.rules.specs.Names.{has_temporary};

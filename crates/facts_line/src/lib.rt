@@ -6,6 +6,8 @@
 //     X sec=I side(SIDE)        E sec=I side(SIDE)       cancel, error
 //
 // SIDE in normal is price=P cond=L days=Y prev=Q vol=V, otherwise cond=L days=Y prev=Q. Prices are by value; `-` is none.
+#![tactic(auto)]
+
 ghost use Rattle.std.specs.Prelude.{◌≤◌, length};
 ghost use Rattle.text.specs.Put.{Written};
 ghost use Rattle.facts_entry.specs.Entry.{conditions_in, part_in, volume_in, fact_in};

@@ -1,4 +1,6 @@
 // The entry that a line adds to the shown facts, as thirteen numbers: security, temporary suffix shown or not, kind and sides.
+#![tactic(auto)]
+
 ghost use Rattle.std.specs.Prelude.{◌≡◌, List, ◌∷◌, ℕ};
 ghost use Rattle.text.specs.Pick.{pick};
 ghost use Rattle.facts_entry.specs.Entry.{conditions_in, part_in, volume_in, fact_in};

@@ -1,6 +1,8 @@
 // What the programs that take a day file gather of its lines (document 01, "Shown facts and the whole day"): the day program
 // its tape and refusals, `factlines` its facts, `explain` its explanations. The definitions and laws of a block of lines stand
 // here once, over what is told of a line (specs/Gather, `Program`).
+#![tactic(auto)]
+
 ghost use Rattle.std.specs.Prelude.{◌≡◌, ◌-◌, ◌≤◌, leb, ◌&&◌};
 ghost use Rattle.feed_gather.specs.Gather.{last_line};
 

@@ -1,5 +1,7 @@
 // Lines: a block of input is split at its line feeds, each line is handed to the engine as a part of the block, prints are
 // gathered in one lent block and refusals in another (document 01, "Shown facts and the whole day").
+#![tactic(auto)]
+
 ghost use Rattle.std.specs.Prelude.{◌≡◌, [], ◌∷◌, ◌+◌, ◌-◌, ◌≤◌, length, take, drop};
 ghost use Rattle.text.specs.Put.{Written};
 ghost use Rattle.feed_lines.specs.Refusals.{refusal_line};

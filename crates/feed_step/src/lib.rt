@@ -5,6 +5,8 @@
 //     settle   where the program stands behind it
 //
 // Between the two, the program's own crate takes the lines that the way says (feed_lines, facts_block, explain_block: `step`).
+#![tactic(auto)]
+
 ghost use Rattle.std.specs.Prelude.{◌≡◌, ◌+◌, ◌-◌, ◌≤◌, length};
 ghost use Rattle.feed_step.specs.Step.{opening, long_way, lines_way, way_of, used_by, passing_by, reads_by, is_over, Settles};
 

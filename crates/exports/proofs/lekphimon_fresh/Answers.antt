@@ -1,0 +1,6 @@
+use Rattle.exports.proofs.Laws.{numbers_are}
+use borrow.Author.Rules.{rules}
+use Rattle.exports.proofs.lekphimon_fresh.Goals as goal
+
+pub returns : goal.returns
+returns c = search numbers_are

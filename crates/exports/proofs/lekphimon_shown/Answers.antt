@@ -1,0 +1,6 @@
+use Rattle.exports.proofs.Laws.{shown_numbers}
+use borrow.Author.Rules.{rules}
+use Rattle.exports.proofs.lekphimon_shown.Goals as goal
+
+pub returns : goal.returns
+returns c = search shown_numbers

@@ -1,0 +1,6 @@
+use Rattle.exports.proofs.Laws.{taken_numbers}
+use borrow.Author.Rules.{rules}
+use Rattle.exports.proofs.lekphimon_take_line.Goals as goal
+
+pub returns : goal.returns
+returns c = search taken_numbers

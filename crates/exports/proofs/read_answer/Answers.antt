@@ -1,0 +1,6 @@
+use Rattle.exports.proofs.Laws.{read_refused}
+use borrow.Author.Rules.{rules}
+use Rattle.exports.proofs.read_answer.Goals as goal
+
+pub returns-in-Refused : goal.returns-in-Refused
+returns-in-Refused c = search read_refused

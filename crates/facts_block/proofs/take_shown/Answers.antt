@@ -1,0 +1,15 @@
+use Rattle.facts_block.proofs.Calls.{count_fits, count_taken, entry_room, call_shown}
+use borrow.Author.Rules.{rules}
+use Rattle.facts_block.proofs.take_shown.Goals as goal
+
+pub slice_bounds-tape-end : goal.slice_bounds-tape-end
+slice_bounds-tape-end c = search count_fits
+
+pub slice_bounds-write_entry-end : goal.slice_bounds-write_entry-end
+slice_bounds-write_entry-end c = search count_taken
+
+pub write_entry-k-requires : goal.write_entry-k-requires
+write_entry-k-requires c = search entry_room
+
+pub returns : goal.returns
+returns c = search call_shown

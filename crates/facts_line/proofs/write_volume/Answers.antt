@@ -1,0 +1,16 @@
+use Rattle.text.proofs.Writing.{named, fits}
+use Rattle.facts_line.proofs.Lines.{parts}
+use borrow.Author.Rules.{rules}
+use Rattle.facts_line.proofs.write_volume.Goals as goal
+
+pub write_decimal-requires : goal.write_decimal-requires
+write_decimal-requires c = search (fits, parts)
+
+pub write_bytes-requires : goal.write_bytes-requires
+write_bytes-requires c = search (fits, parts)
+
+pub returns-in-Shown : goal.returns-in-Shown
+returns-in-Shown c = search (named, parts)
+
+pub returns-in-Hidden : goal.returns-in-Hidden
+returns-in-Hidden c = search (named, parts)

@@ -1,0 +1,6 @@
+use Rattle.facts_numbers.proofs.Arms.{gathered_is}
+use borrow.Author.Rules.{rules}
+use Rattle.facts_numbers.proofs.correction_numbers.Goals as goal
+
+pub returns : goal.returns
+returns c = search gathered_is

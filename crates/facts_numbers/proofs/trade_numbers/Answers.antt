@@ -1,0 +1,6 @@
+use Rattle.facts_numbers.proofs.Arms.{trade_is}
+use borrow.Author.Rules.{rules}
+use Rattle.facts_numbers.proofs.trade_numbers.Goals as goal
+
+pub returns : goal.returns
+returns c = search trade_is
