@@ -1,5 +1,5 @@
 -- What a line asks for, by the state that settings and tables hold: the first refusal of 1 to 12 that stops it, or what it prints and stores. Assumes nothing.
-use Rattle.std.specs.Prelude.{ℕ, ◌-◌, ◌<◌, Bool, true, false, ◌&&◌, ◌||◌, not, List, [], leb, ltb, eqb, length}
+use Rattle.std.specs.Prelude.{ℕ, ◌-◌, Bool, true, false, ◌&&◌, not, List, leb, eqb}
 use Rattle.text.specs.Pick.{pick}
 use Rattle.rules.specs.Columns.{column}
 use Rattle.rules.specs.Conditions.{on_network}
@@ -7,18 +7,16 @@ use Rattle.rules.specs.Trade.{prints_trade, trade_form, trade_shows, after_trade
 use Rattle.rules.specs.Correction.{prints_correction, correction_form, correction_shows, cancel_form, cancel_shows, after_correction}
 use Rattle.rules.specs.Line.{is_shaped, is_kind, is_formed, is_ranged, line_of, name_columns}
 use Rattle.rules.specs.Day.{is_entered, shows_temporary, entered, taken_name}
-use Rattle.rules.specs.declared.Mode.{Mode}
 use Rattle.rules.specs.declared.Listing.{Listing}
 use Rattle.rules.specs.declared.Trade.{Trade}
 use Rattle.rules.specs.declared.Correction.{Correction}
 use Rattle.rules.specs.declared.Line.{Line}
 use Rattle.rules.specs.declared.Line.TheVariants.{Dated, Listed, Moded, Leveled, Stepped, Traded, Cancelled, Erred, Corrected}
-use Rattle.rules.specs.declared.Refusal.{Refusal}
-use Rattle.rules.specs.declared.Refusal.TheVariants.{Shape, Kind, NoDate, Form, Value, NotEntered, InUse, Name, SameName, Conditions, Unmatched, DateOrder, Room, NoPrint}
+use Rattle.rules.specs.declared.Refusal.TheVariants.{Shape, Kind, NoDate, Form, Value, NotEntered, InUse, Name, SameName, Conditions, Unmatched, DateOrder}
 use Rattle.rules.specs.declared.Settings.{Settings}
 use Rattle.rules.specs.declared.Security.{Security}
 use Rattle.rules.specs.Sizes.{security_places}
-use Rattle.call_table.specs.Rows.{row, name_of, rows_from, names_from}
+use Rattle.call_table.specs.Rows.{row, rows_from, names_from}
 use Rattle.call_plan.specs.declared.TradePlan.{TradePlan}
 use Rattle.call_plan.specs.declared.CancelPlan.{CancelPlan}
 use Rattle.call_plan.specs.declared.CorrectionPlan.{CorrectionPlan}

@@ -7,14 +7,14 @@ use mathlib.Core.Bool.{Bool, not}
 use mathlib.Core.List.{List, []}
 use lib.ListN.{length, length-append}
 use Rattle.text.specs.Bytes.{bytes}
-use Rattle.text.specs.Pick.{pick, opt}
+use Rattle.text.specs.Pick.{opt}
 use Rattle.text.specs.Decimal.{decimal}
 use Rattle.text.proofs.Decimal.{length_decimal, length_places}
 use Rattle.text.proofs.Parts.{opt_most, pick_most}
 use Rattle.rules.specs.Volume.{group, full_volume}
 use Rattle.rules.specs.Price.{whole_text}
 use Rattle.rules.specs.Side.{side_text}
-use Rattle.rules.specs.Correction.{repeats_name, end_pair, cancel_text, correction_text, cancel_opening, error_opening}
+use Rattle.rules.specs.Correction.{repeats_name, end_pair, cancel_text, correction_text}
 use Rattle.rules.specs.Announcement.{minimum_dollars, minimum_text, mode_text, level_text, step_text}
 use Rattle.rules.specs.declared.Mode.{Mode}
 use Rattle.rules.specs.declared.Mode.TheVariants.{Normal, Dvd, Rpo, Mpv}
@@ -24,12 +24,9 @@ use Rattle.rules.specs.Sizes.{longest_print}
 use Rattle.line_owed.specs.Owed.{OwedSide}
 use Rattle.print_side.proofs.Short.{side_short}
 use Rattle.print_amendment.proofs.Amended.{opening_length}
-use Rattle.call_plan.specs.declared.TradePlan.{TradePlan}
-use Rattle.call_plan.specs.declared.CancelPlan.{CancelPlan}
-use Rattle.call_plan.specs.declared.CorrectionPlan.{CorrectionPlan}
 use Rattle.call_plan.specs.declared.Plan.{Plan}
 use Rattle.call_plan.specs.declared.Plan.TheVariants.{Stop, Open, Enter, Change, Level, Step, Print, Cancel, Correct}
-use Rattle.call_print.specs.Print.{print_text, cancelled, corrected, text_of, fitted_of, SoundPrint, SoundCancel, SoundCorrect, SoundPlan}
+use Rattle.call_print.specs.Print.{print_text, cancelled, corrected, text_of, fitted_of, SoundPlan}
 use Rattle.call_print.proofs.Room.{told_fits}
 use Rattle.rules.specs.declared.PriceForm.{PriceForm}
 

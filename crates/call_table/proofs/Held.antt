@@ -1,14 +1,14 @@
 -- The day that the tables hold: what is stored at a security's number is the day's list set there. Assumes nothing.
-use Prim.Native.Nat.{ℕ, suc, ◌+◌, ◌-◌, ◌*◌, ◌≤◌, ◌<◌}
+use Prim.Native.Nat.{ℕ, ◌+◌, ◌-◌, ◌*◌, ◌≤◌}
 use native.Mathlib.Omega.{arith}
-use mathlib.Core.Path.{◌≡◌, refl, sym, ap, ◌∙◌}
-use mathlib.Core.List.{List, []}
-use lib.ListN.{length, get_or, set, replicate}
+use mathlib.Core.Path.{◌≡◌, ap, ◌∙◌}
+use mathlib.Core.List.{List}
+use lib.ListN.{length, set, replicate}
 use Rattle.call_table.specs.Sizes.{table_size, names_size}
 use Rattle.rules.specs.Sizes.{name_width, security_places}
 use Rattle.rules.specs.declared.Security.{Security}
 use Rattle.rules.specs.declared.Settings.{Settings}
-use Rattle.rules.specs.Day.{Day, vacant, no_name, opened, cleared, security_at, name_at}
+use Rattle.rules.specs.Day.{opened, cleared, security_at, name_at}
 use Rattle.call_table.specs.Rows.{row, with_row, name_of, with_name, rows_from, names_from, day_of}
 use Rattle.call_table.proofs.Places.{rows_get, rows_set, rows_cleared, names_get, names_set, names_cleared}
 

@@ -1,6 +1,6 @@
 -- A security loaded and stored part by part, in the form of the code's needs. Assumes nothing.
 use Prim.Native.Nat.{ℕ, ◌+◌, ◌*◌}
-use mathlib.Core.Path.{◌≡◌, refl}
+use mathlib.Core.Path.{◌≡◌}
 use mathlib.Core.List.{List}
 use Rattle.rules.specs.declared.Issue.{Issue}
 use Rattle.rules.specs.declared.Printed.{Printed}

@@ -1,12 +1,12 @@
 -- Laws of an accepted trade, in the form of the code's needs. Assumes nothing.
-use Prim.Native.Nat.{ℕ, ◌/◌, ◌^◌, ◌≤◌, ◌<◌}
+use Prim.Native.Nat.{ℕ, ◌/◌, ◌≤◌}
 use native.Mathlib.Omega.{arith}
 use mathlib.Core.Path.{◌≡◌, refl, sym, ap, ◌∙◌}
-use mathlib.Core.Bool.{Bool, true, false, ◌&&◌, not}
+use mathlib.Core.Bool.{Bool, true, false, not}
 use mathlib.Core.List.{List, []}
 use lib.Dec.{eqb, leb}
 use lib.ListN.{length, get_or}
-use borrow.Author.Tests.{le-leb, lt-leb, leb-true, leb-false, not-true, not-false}
+use borrow.Author.Tests.{le-leb, leb-true, not-true, not-false}
 use Rattle.text.specs.Pick.{opt}
 use Rattle.text.specs.Put.{Written}
 use Rattle.text.proofs.Writing.{written_nothing}
@@ -20,7 +20,7 @@ use Rattle.rules.specs.Qualifying.{for_neither, for_range_only, for_range, for_l
 use Rattle.rules.specs.declared.Letters.{Letters}
 use Rattle.rules.specs.Side.{side_text}
 use Rattle.rules.specs.Day.{shows_temporary}
-use Rattle.rules.specs.Trade.{prints_trade, trade_form, trade_shows, after_trade}
+use Rattle.rules.specs.Trade.{prints_trade, after_trade}
 use Rattle.rules.specs.Sizes.{longest_print}
 use Rattle.call_table.specs.Rows.{with_row, name_of}
 use Rattle.name_text.proofs.Text.{name_most}

@@ -1,5 +1,5 @@
 -- A list of calls from a fresh state prints the rules' tape, and its tables hold the rules' day. Assumes nothing.
-use Prim.Native.Nat.{ℕ, ◌+◌, ◌-◌, ◌*◌, ◌≤◌}
+use Prim.Native.Nat.{ℕ, ◌+◌, ◌*◌, ◌≤◌}
 use native.Mathlib.Omega.{arith}
 use mathlib.Core.Path.{◌≡◌, refl, sym, ap, ◌∙◌}
 use mathlib.Core.List.{List, ◌++◌}
@@ -19,7 +19,7 @@ use Rattle.call_plan.specs.declared.Plan.TheVariants.{Stop, Open, Enter, Change,
 use Rattle.call_plan.specs.Plan.{plan_of}
 use Rattle.engine.specs.declared.Answer.{Answer}
 use Rattle.call_print.specs.Print.{printed_name, text_of, print_of, SoundPlan}
-use Rattle.engine.specs.Taken.{asked, outcome_of, Taken, count_of}
+use Rattle.engine.specs.Taken.{asked, Taken, count_of}
 use Rattle.call_state.specs.After.{settings_after, table_after, names_after}
 use Rattle.call_print.proofs.Sound.{sound_asked}
 use Rattle.call_print.proofs.Room.{fitted_sound}

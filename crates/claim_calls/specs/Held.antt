@@ -2,7 +2,7 @@
 use Rattle.std.specs.Prelude.{ℕ, ◌≡◌, List, length}
 use Rattle.std.proofs.Math.Option.{Option, none, some}
 use Rattle.rules.specs.Refusal.{refusal_number}
-use Rattle.rules.specs.Day.{Day, Call, refusal_of, tape_of, after}
+use Rattle.rules.specs.Day.{Day, refusal_of, tape_of, after}
 use Rattle.rules.specs.declared.Refusal.{Refusal}
 use Rattle.rules.specs.declared.Settings.{Settings}
 use Rattle.call_table.specs.Rows.{day_of}

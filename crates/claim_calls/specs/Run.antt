@@ -4,8 +4,6 @@ use Rattle.call_table.specs.Sizes.{table_size, names_size}
 use Rattle.rules.specs.Day.{Day, Call, opened, fresh, tape_of, after}
 use Rattle.rules.specs.declared.Settings.{Settings}
 use Rattle.call_table.specs.Rows.{day_of}
-use Rattle.engine.specs.declared.Outcome.{Outcome}
-use Rattle.engine.specs.declared.Outcome.TheVariants.{Accepted, Refused}
 use Rattle.engine.specs.declared.Answer.{Answer}
 use Rattle.engine.specs.Taken.{Taken, count_of}
 

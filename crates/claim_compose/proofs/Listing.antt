@@ -1,5 +1,5 @@
 -- The S line that enters a security is accepted on a day with nothing entered. Assumes nothing.
-use Prim.Native.Nat.{ℕ, suc, zero, ◌-◌, ◌^◌, ◌≤◌, ◌<◌}
+use Prim.Native.Nat.{ℕ, suc, zero, ◌^◌, ◌≤◌, ◌<◌}
 use native.Mathlib.Omega.{arith}
 use mathlib.Core.Path.{◌≡◌, refl, ap, ◌∙◌}
 use mathlib.Core.Bool.{Bool, true, false, ◌&&◌, ◌||◌}
@@ -13,7 +13,7 @@ use Rattle.text.proofs.Parts.{all_append}
 use Rattle.rules.specs.Columns.{columns, column, blank, is_blank, number_in, is_number, value_of, between}
 use Rattle.rules.specs.Line.{is_printable, is_shaped, is_kind, is_market, is_network, is_unit, is_security_number, listing_formed, listing_ranged, listing_of, name_columns, of_kind, is_formed, is_ranged, line_of}
 use Rattle.rules.specs.Refusal.{refuse}
-use Rattle.rules.specs.Day.{cleared, vacant, no_name, is_entered, taken_name, listing_refusal, state_refusal, undated, refusal_of, print_of, entered}
+use Rattle.rules.specs.Day.{cleared, vacant, no_name, is_entered, taken_name, listing_refusal, state_refusal, undated, refusal_of, print_of}
 use Rattle.rules.specs.NormalPrint.{level_day}
 use Rattle.rules.specs.declared.Number.TheVariants.{Is}
 use Rattle.rules.specs.declared.Listing.{Listing}

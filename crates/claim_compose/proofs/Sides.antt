@@ -1,5 +1,5 @@
 -- A side's columns say the side. Assumes nothing.
-use Prim.Native.Nat.{ℕ, ◌-◌, ◌^◌, ◌<◌}
+use Prim.Native.Nat.{ℕ, ◌^◌, ◌<◌}
 use native.Mathlib.Omega.{arith}
 use mathlib.Core.Path.{◌≡◌, refl, sym, ap, ◌∙◌}
 use mathlib.Core.Bool.{Bool, true, false, ◌&&◌}
@@ -8,7 +8,7 @@ use borrow.Author.Tests.{eqb-true}
 use Rattle.text.specs.Pick.{pick, all}
 use Rattle.text.proofs.Texts.{and_left, and_right}
 use Rattle.text.proofs.Parts.{all_append}
-use Rattle.rules.specs.Columns.{columns, is_number, number_or_blank, value_of, passes, between}
+use Rattle.rules.specs.Columns.{is_number, number_or_blank, value_of, passes, between}
 use Rattle.rules.specs.Conditions.{lawful_letters}
 use Rattle.rules.specs.Line.{is_printable, is_price, previous_ranged, formed_by, ranged_by, side_by, matched_by, alike, side_formed, side_ranged, side_of, side_matched, volume_in, price_in, decimals_in, letters_field, days_in, previous_in, previous_decimals_in}
 use Rattle.rules.specs.declared.Number.{Number}

@@ -6,7 +6,7 @@ use mathlib.Core.Bool.{Bool}
 use mathlib.Core.List.{List, [], ◌∷◌, ◌++◌}
 use mathlib.Core.Option.{Option, none, some}
 use lib.ListN.{length, take, replicate}
-use Rattle.rules.specs.Day.{Day, Call, fresh, refusal_of, tape_of, after, ample, print_of}
+use Rattle.rules.specs.Day.{Day, fresh, refusal_of, tape_of, after, ample, print_of}
 use Rattle.rules.specs.Line.{line_of}
 use Rattle.rules.specs.Sizes.{width, longest_print}
 use Rattle.rules.specs.declared.Refusal.{Refusal}

@@ -3,7 +3,7 @@ use Rattle.std.specs.Prelude.{ℕ, ◌+◌, ◌≡◌, List, [], ◌∷◌, ◌+
 use Rattle.std.proofs.Math.Option.{Option, none, some}
 use Rattle.rules.specs.Sizes.{longest_print}
 use Rattle.rules.specs.Refusal.{number_of}
-use Rattle.rules.specs.Day.{Day, Call, fresh, refusal_of, tape_of, after, ample}
+use Rattle.rules.specs.Day.{Day, fresh, refusal_of, tape_of, after, ample}
 use Rattle.rules.specs.declared.Refusal.{Refusal}
 use Rattle.feed_lines.specs.Refusals.{refusal_line}
 

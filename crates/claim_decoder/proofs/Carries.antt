@@ -2,14 +2,14 @@
 use Prim.Native.Nat.{ℕ, ◌-◌, ◌<◌}
 use mathlib.Core.Path.{◌≡◌, refl, sym, ap, ◌∙◌}
 use mathlib.Core.Bool.{Bool}
-use mathlib.Core.List.{List, [], append-nil}
+use mathlib.Core.List.{[], append-nil}
 use mathlib.Core.Option.{Option}
 use lib.ListN.{set}
 use Rattle.rules.specs.Announcement.{mode_text, level_text, minimum_text}
 use Rattle.rules.specs.Shown.{Conditions, announced, traded}
 use Rattle.rules.specs.declared.Mode.{Mode}
 use Rattle.rules.specs.declared.Mode.TheVariants.{Normal, Dvd, Rpo, Mpv}
-use Rattle.print_announcement.specs.Reading.{Told, normal, dvd, rpo, level, minimum, read_announcement}
+use Rattle.print_announcement.specs.Reading.{read_announcement}
 use Rattle.print_announcement.proofs.Back.{told, mode_back, minimum_back, level_back}
 use Rattle.claim_decoder.specs.Carried.{Carried, mode_told, mode_after, next}
 

@@ -1,17 +1,16 @@
 -- What may follow a print: nothing, or another print. No print goes on with a part of the one before it. Assumes nothing.
-use Prim.Native.Nat.{ℕ, suc, ◌+◌, ◌≤◌, ◌<◌}
+use Prim.Native.Nat.{ℕ, suc, ◌+◌, ◌≤◌}
 use native.Mathlib.Omega.{arith}
 use mathlib.Core.Path.{◌≡◌, refl, sym, ap, ◌∙◌}
 use mathlib.Core.Bool.{Bool, true, false, ◌&&◌, ◌||◌, not}
 use mathlib.Core.List.{List, [], ◌∷◌, ◌++◌, append_assoc}
-use mathlib.Core.Logic.{◌⊎◌, ⊎_elim}
-use mathlib.Core.Option.{none, some}
+use mathlib.Core.Logic.{⊎_elim}
 use lib.Dec.{eqb, leb}
 use lib.ListN.{length, length-append, length-take}
 use borrow.Author.Tests.{eqb-true, eqb-false, ne_eqb, leb-true, lt-leb, not-true}
 use Rattle.text.specs.Bytes.{bytes}
 use Rattle.text.specs.Pick.{pick, opt, all, same, among, member}
-use Rattle.text.specs.Reading.{before, heads, is_digit, starts, past, dot_digit}
+use Rattle.text.specs.Reading.{heads, is_digit, starts, past, dot_digit}
 use Rattle.text.proofs.Texts.{and_left, and_right, same_true}
 use Rattle.text.proofs.Booleans.{neither, and_both, false_true, or_cases}
 use Rattle.text.proofs.Parts.{span_short}

@@ -1,5 +1,5 @@
 -- What a tape shows from print to print: the mode, and the last printed price of each security. Assumes nothing.
-use Rattle.std.specs.Prelude.{ℕ, ◌-◌, List, [], map, Bool, get_or, set}
+use Rattle.std.specs.Prelude.{ℕ, ◌-◌, List, map, set}
 use Rattle.std.proofs.Math.Option.{Option, none, some}
 use Rattle.text.specs.Pick.{pick}
 use Rattle.text.specs.Reading.{Read}

@@ -1,9 +1,9 @@
 -- The print at the front of a tape, in any mode, and what it shows. Securities go by their names, listed by number. Assumes nothing.
-use Rattle.std.specs.Prelude.{ℕ, suc, ◌+◌, ◌-◌, ◌*◌, ◌/◌, ◌^◌, Bool, true, false, ◌&&◌, ◌||◌, not, List, [], ◌∷◌, leb, get_or}
+use Rattle.std.specs.Prelude.{ℕ, suc, ◌+◌, ◌-◌, ◌*◌, Bool, true, false, ◌&&◌, ◌||◌, not, List, [], ◌∷◌, leb, get_or}
 use Rattle.std.proofs.Math.Option.{Option, none, some}
 use Rattle.text.specs.Bytes.{bytes}
 use Rattle.text.specs.Pick.{pick, same}
-use Rattle.text.specs.Reading.{Read, found, starts, past}
+use Rattle.text.specs.Reading.{Read, starts, past}
 use Rattle.rules.specs.Columns.{between}
 use Rattle.rules.specs.Names.{name_text, has_temporary}
 use Rattle.rules.specs.Trade.{tens, dollars, is_normal}
@@ -11,12 +11,12 @@ use Rattle.rules.specs.Announcement.{minimum_text, mode_text, level_text}
 use Rattle.rules.specs.Day.{no_name}
 use Rattle.rules.specs.Shown.{Conditions, Part, in_full, bare, Fact, announced, traded, cancelled, erred, corrected}
 use Rattle.rules.specs.declared.Mode.{Mode}
-use Rattle.rules.specs.declared.Mode.TheVariants.{Normal, Dvd, Rpo, Mpv}
+use Rattle.rules.specs.declared.Mode.TheVariants.{Normal, Dvd, Rpo}
 use Rattle.print_volume.specs.Reading.{Shown, unsaid, said, shares_of}
 use Rattle.print_conditions.specs.Reading.{Tail}
 use Rattle.print_side.specs.Reading.{SideRead, read_side}
 use Rattle.print_announcement.specs.Reading.{Told, normal, dvd, rpo, minimum, level, read_announcement}
-use Rattle.name_back.specs.Cut.{Sold, plain, opened, sold, last, After, after, Divided, divide}
+use Rattle.name_back.specs.Cut.{Sold, plain, opened, sold, last, After, after, divide}
 use Rattle.claim_decoder.specs.Carried.{Carried}
 
 -- the names of the day's securities, 19 columns each, by number from 1

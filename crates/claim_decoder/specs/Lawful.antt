@@ -1,5 +1,5 @@
 -- What an accepted line's side owes to a decoder: values within document 01's, letters that do not exclude each other, days and previous last only where their letters ask for them. Assumes nothing.
-use Rattle.std.specs.Prelude.{ℕ, ◌≡◌, true, false}
+use Rattle.std.specs.Prelude.{◌≡◌, true, false}
 use Rattle.rules.specs.Price.{units}
 use Rattle.rules.specs.declared.Side.{Side}
 use Rattle.name_back.specs.Cut.{one_sold}

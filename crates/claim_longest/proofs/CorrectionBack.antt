@@ -1,8 +1,8 @@
 -- A correction that one line can print is read whole, at least, where it stands. Assumes nothing.
-use Prim.Native.Nat.{ℕ, ◌+◌, ◌≤◌, ◌<◌}
+use Prim.Native.Nat.{ℕ, ◌+◌, ◌≤◌}
 use native.Mathlib.Omega.{arith}
 use mathlib.Core.Path.{◌≡◌, refl, sym, ap, ◌∙◌}
-use mathlib.Core.Logic.{◌⊎◌, ⊎_elim}
+use mathlib.Core.Logic.{⊎_elim}
 use mathlib.Core.Bool.{Bool, true, false, ◌||◌, not}
 use mathlib.Core.List.{List, [], ◌++◌, append_assoc}
 use lib.Dec.{eqb, leb}
@@ -36,7 +36,6 @@ use Rattle.text.specs.Bytes.{bytes}
 use Rattle.text.specs.Reading.{starts, dot_digit}
 use Rattle.text.proofs.Reading.{starts_append}
 use Rattle.rules.specs.Correction.{end_pair}
-use Rattle.read_volume.specs.Volume.{explains}
 use Rattle.read_side.specs.Side.{beside}
 use Rattle.read_conditions.specs.declared.Taken.{Taken}
 use Rattle.reader.specs.Read.{end_at}

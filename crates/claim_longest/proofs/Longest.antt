@@ -1,5 +1,5 @@
 -- THE READER'S THEOREM: the answer at a place is the longest normal print there. Assumes nothing.
-use Prim.Native.Nat.{ℕ, ◌+◌, ◌-◌, ◌≤◌, ◌<◌}
+use Prim.Native.Nat.{ℕ, ◌+◌, ◌-◌, ◌≤◌}
 use native.Mathlib.Omega.{arith}
 use mathlib.Core.Path.{◌≡◌, refl, sym, ap, ◌∙◌, subst}
 use mathlib.Core.Bool.{Bool, true, false, ◌&&◌}
@@ -54,7 +54,7 @@ use Rattle.text.specs.Reading.{heads}
 use Rattle.name_back.proofs.Back.{name_head}
 use Rattle.text.proofs.Tests.{is_ne}
 use Rattle.text.proofs.Parts.{heads_append}
-use Rattle.text.proofs.Booleans.{nonzero, and_both, false_true, or_cases}
+use Rattle.text.proofs.Booleans.{nonzero, and_both, false_true}
 use Rattle.rules.specs.Tape.{is_letter}
 use Rattle.rules.specs.Announcement.{mode_text, level_text}
 use Rattle.rules.specs.Correction.{cancel_opening, error_opening}

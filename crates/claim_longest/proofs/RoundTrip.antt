@@ -1,18 +1,17 @@
 -- The reader at a normal print gives its length, its name and its facts: where nothing follows, and where another normal print follows. Assumes nothing.
-use Prim.Native.Nat.{ℕ, ◌+◌, ◌≤◌}
+use Prim.Native.Nat.{ℕ, ◌≤◌}
 use native.Mathlib.Omega.{arith}
 use mathlib.Core.Path.{◌≡◌, refl, sym, ap, ◌∙◌, subst}
-use mathlib.Core.List.{List, [], ◌∷◌, ◌++◌, append-nil}
+use mathlib.Core.List.{List, [], ◌++◌}
 use mathlib.Core.Option.{Option, none, some}
 use lib.ListN.{length, take, drop, take-append-drop}
 use lib.Seq.{take_at, length-take-le}
 use Rattle.rules.specs.NormalPrint.{ReadFact, NormalPrint}
 use Rattle.reader.specs.declared.ReadAnswer.{ReadAnswer}
-use Rattle.reader.specs.Read.{print_at, read_at}
+use Rattle.reader.specs.Read.{read_at}
 use Rattle.reader.specs.Told.{length_of, name_at, fact_in}
-use Rattle.reader.proofs.Bounds.{Within, print_within}
+use Rattle.reader.proofs.Bounds.{print_within}
 use Rattle.claim_decoder.proofs.Fresh.{Fresh, fresh_end}
-use Rattle.claim_longest.specs.Claim.{Longest}
 use Rattle.claim_longest.specs.Back.{Back}
 use Rattle.claim_longest.proofs.Longest.{longest_print_lem}
 use Rattle.claim_longest.proofs.Determined.{determined}

@@ -1,55 +1,28 @@
 -- A side that is read is one that a line can have. Assumes nothing.
-use Prim.Native.Nat.{ℕ, zero, suc, ◌+◌, ◌-◌, ◌*◌, ◌^◌, ◌≤◌, ◌<◌}
-use native.Mathlib.Nat.{zero-add}
+use Prim.Native.Nat.{ℕ, ◌+◌, ◌^◌, ◌≤◌, ◌<◌}
 use native.Mathlib.Omega.{arith}
-use mathlib.Core.Path.{◌≡◌, refl, sym, ap, ◌∙◌, subst}
-use mathlib.Core.Logic.{◌⊎◌, inl, inr, ⊎_elim}
+use mathlib.Core.Path.{◌≡◌, refl, sym, ap, ◌∙◌}
+use mathlib.Core.Logic.{⊎_elim}
 use mathlib.Core.Bool.{Bool, true, false, ◌&&◌, ◌||◌, not}
-use mathlib.Core.List.{List, [], ◌∷◌, ◌++◌, append_assoc, append-nil}
-use lib.Dec.{eqb, leb, ltb}
-use lib.ListN.{length, take, drop, length-append, length-take, length-drop}
-use lib.Seq.{drop-drop}
-use Rattle.text.specs.Bytes.{bytes}
-use Rattle.text.specs.Pick.{pick, opt, among}
-use Rattle.text.proofs.Texts.{and_left, and_right}
+use mathlib.Core.List.{List}
+use lib.Dec.{eqb, leb}
+use Rattle.text.specs.Pick.{pick, among}
 use Rattle.text.proofs.Tests.{is_lt, is_le}
 use Rattle.rules.specs.Columns.{between}
-use Rattle.rules.specs.Price.{price_text, units}
-use Rattle.rules.specs.Volume.{volume_text}
 use Rattle.rules.specs.Conditions.{on_network}
-use Rattle.rules.specs.Side.{tail_text}
-use Rattle.rules.specs.Line.{is_price, is_unit, is_network}
+use Rattle.rules.specs.Line.{is_price, is_network}
 use Rattle.rules.specs.declared.Letters.{Letters}
 use Rattle.rules.specs.declared.Price.{Price}
-use Rattle.rules.specs.declared.Side.{Side}
-use Rattle.text.proofs.Booleans.{false_true, or_cases}
+use Rattle.text.proofs.Booleans.{or_cases}
 use Rattle.print_price.specs.Sound.{Sound}
 use Rattle.name_back.specs.Cut.{one_sold}
 use Rattle.line_owed.specs.Shown.{letter_count, one_delivery, showable, Showable}
-use Rattle.read_price.specs.declared.PriceRead.{PriceRead}
-use Rattle.read_price.specs.declared.PriceAnswer.{PriceAnswer}
-use Rattle.read_price.specs.declared.PriceAnswer.TheVariants.{Priced, NoPrice}
-use Rattle.read_volume.specs.declared.Volume.{Volume}
-use Rattle.read_volume.specs.declared.Volume.TheVariants.{Unsaid, Hundreds, Tens, Shares}
-use Rattle.read_volume.specs.declared.VolumeRead.{VolumeRead}
-use Rattle.read_volume.specs.declared.VolumeAnswer.{VolumeAnswer}
-use Rattle.read_volume.specs.declared.VolumeAnswer.TheVariants.{Said, NoVolume}
-use Rattle.read_price.specs.Price.{price_at}
-use Rattle.read_volume.specs.Volume.{volume_at, shares_in, figures_of, said_text, explains, explains_both, explained}
-use Rattle.read_price.proofs.Text.{PriceFound, price_found}
-use Rattle.read_volume.proofs.Shown.{VolumeFound, volume_found, explained_text, explained_some, shares_small}
-use Rattle.read_name.specs.Head.{letters_after}
-use Rattle.read_conditions.specs.declared.Taken.{Taken}
-use Rattle.read_conditions.specs.Tail.{plus_cash, plus_average, plus_stopped, plus_seller, plus_rule, plus_previous, side_with as tails·sideWith, cash_at, average_at, stopped_at, seller_at, rule_at, previous_at, after_price_at, at_end_at, tail_at}
-use Rattle.read_conditions.proofs.Standing.{cash_keeps, average_keeps, stopped_keeps, seller_keeps, rule_keeps, Bare, tail_text_lem, tail_from, tail_within}
-use Rattle.read_conditions.proofs.Lawful.{one as tails·one, letter_count as tails·letterCount, Lawful, bare_lawful, tail_lawful}
-use Rattle.read_conditions.proofs.Kept.{previous_keeps, Explained, tail_explained, tail_volume, tail_price, tail_o, tail_s, tail_l, tail_n, tail_m, tail_c}
+use Rattle.read_volume.specs.Volume.{shares_in}
+use Rattle.read_volume.proofs.Shown.{explained_some, shares_small}
+use Rattle.read_conditions.proofs.Lawful.{letter_count as tails·letterCount}
 use Rattle.read_side.specs.declared.Beside.{Beside}
-use Rattle.read_side.specs.declared.Beside.TheVariants.{Alone, With}
 use Rattle.read_side.specs.declared.SideRead.{SideRead}
-use Rattle.read_side.specs.declared.SideAnswer.{SideAnswer}
-use Rattle.read_side.specs.declared.SideAnswer.TheVariants.{Sided}
-use Rattle.read_side.specs.Side.{head_count, beside, sided_by, side_with, said_side, or_else, side_at}
+use Rattle.read_side.specs.Side.{beside}
 use Rattle.claim_longest.proofs.Side.{Unit, days_here, number_here, decimals_here, Headed, SideTold, same_bit}
 
 -- ---- the count of letters

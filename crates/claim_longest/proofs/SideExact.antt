@@ -1,5 +1,5 @@
 -- A side that one line can print, with its end behind it, is read exactly, or with a previous last more. Assumes nothing.
-use Prim.Native.Nat.{ℕ, ◌+◌, ◌-◌, ◌≤◌, ◌<◌}
+use Prim.Native.Nat.{ℕ, ◌+◌, ◌≤◌, ◌<◌}
 use native.Mathlib.Omega.{arith}
 use mathlib.Core.Path.{◌≡◌, refl, sym, ap, ◌∙◌, subst}
 use mathlib.Core.Bool.{Bool, true, false, ◌&&◌, ◌||◌}
@@ -40,7 +40,7 @@ use Rattle.line_owed.specs.Shown.{one}
 use Rattle.claim_longest.proofs.Side.{beginning}
 use Rattle.claim_longest.proofs.Tail.{from_average}
 use Rattle.claim_longest.proofs.Figures.{unmarked, unmarked_tail, no_volume}
-use Rattle.claim_longest.proofs.TailExact.{Ended, Begins, TailEnd, ended, more, tail_ends, letters_before}
+use Rattle.claim_longest.proofs.TailExact.{Ended, Begins, TailEnd, tail_ends, letters_before}
 use Rattle.claim_longest.proofs.SideBack.{some_not_none, none_one, unit_explains, tail_parts, tail_size, still_with, one_flag, flag_of, shown_n, shown_c, shown_few, apart_mk, apart_mr, apart_kr, apart_jg, rule_network, previous_network, shown_days}
 use Rattle.line_owed.proofs.Shown.{some_price, sound_price, shown_previous}
 use Rattle.rules.specs.declared.PriceForm.TheVariants.{Full}

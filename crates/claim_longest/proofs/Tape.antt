@@ -1,12 +1,12 @@
 -- A tape of normal prints is read back, print after print. Assumes nothing.
-use Prim.Native.Nat.{ℕ, zero, suc, ◌+◌, ◌≤◌}
+use Prim.Native.Nat.{ℕ, zero, suc, ◌≤◌}
 use native.Mathlib.Omega.{arith}
-use mathlib.Core.Path.{◌≡◌, refl, sym, ap, ◌∙◌, subst}
+use mathlib.Core.Path.{◌≡◌, refl, sym, ap, ◌∙◌}
 use mathlib.Core.List.{List, [], ◌∷◌, ◌++◌}
-use mathlib.Core.Option.{Option, none, some}
+use mathlib.Core.Option.{some}
 use lib.ListN.{length, take, drop, length-append}
 use lib.Seq.{take_at, drop_at}
-use Rattle.rules.specs.NormalPrint.{ReadFact, NormalPrint}
+use Rattle.rules.specs.NormalPrint.{ReadFact}
 use Rattle.reader.specs.Read.{read_at}
 use Rattle.reader.specs.Told.{length_of, name_at, fact_in}
 use Rattle.claim_decoder.proofs.Fresh.{Fresh, fresh_end}

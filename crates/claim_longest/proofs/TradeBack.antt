@@ -1,12 +1,12 @@
 -- A trade that one line can print is read whole, at least, where it stands. Assumes nothing.
-use Prim.Native.Nat.{ℕ, zero, suc, ◌+◌, ◌≤◌, ◌<◌}
+use Prim.Native.Nat.{ℕ, ◌+◌, ◌≤◌, ◌<◌}
 use native.Mathlib.Omega.{arith}
-use mathlib.Core.Path.{◌≡◌, refl, sym, ap, ◌∙◌, subst}
-use mathlib.Core.Logic.{◌⊎◌, inl, inr, ⊎_elim}
-use mathlib.Core.Bool.{Bool, true, false, ◌&&◌, ◌||◌, not}
-use mathlib.Core.List.{List, [], ◌∷◌, ◌++◌, append_assoc}
+use mathlib.Core.Path.{◌≡◌, sym, ap, ◌∙◌}
+use mathlib.Core.Logic.{⊎_elim}
+use mathlib.Core.Bool.{Bool, true, false, ◌||◌}
+use mathlib.Core.List.{List, ◌++◌, append_assoc}
 use lib.Dec.{eqb, leb}
-use lib.ListN.{length, take, drop, length-append}
+use lib.ListN.{length, length-append}
 use lib.Seq.{drop-append_seam}
 use borrow.Author.Tests.{eqb-true, leb-true}
 use Rattle.text.specs.Pick.{pick, opt, among}
@@ -20,25 +20,19 @@ use Rattle.rules.specs.Volume.{volume_text}
 use Rattle.rules.specs.Conditions.{after_name}
 use Rattle.rules.specs.Side.{head_text, tail_text, side_text}
 use Rattle.rules.specs.Line.{is_network}
-use Rattle.rules.specs.declared.Letters.{Letters}
 use Rattle.rules.specs.declared.Side.{Side}
 use Rattle.text.proofs.Booleans.{false_true, or_cases}
 use Rattle.print_side.proofs.SideBack.{side_lower}
 use Rattle.line_owed.specs.Shown.{Enterable, Showable}
 use Rattle.read_name.specs.Name.{name_on}
-use Rattle.read_name.specs.Head.{letters_after, head_at}
-use Rattle.read_name.specs.declared.NameAnswer.{NameAnswer}
-use Rattle.read_name.specs.declared.NameAnswer.TheVariants.{Named, NoName}
+use Rattle.read_name.specs.Head.{head_at}
+use Rattle.read_name.specs.declared.NameAnswer.TheVariants.{Named}
 use Rattle.claim_names.proofs.Lawful.{name_lawful}
 use Rattle.claim_names.proofs.Head.{head_read, head_found}
-use Rattle.read_side.specs.declared.Beside.TheVariants.{Alone, With}
-use Rattle.read_side.specs.declared.SideAnswer.TheVariants.{Sided}
-use Rattle.read_side.specs.Side.{side_at}
 use Rattle.reader.specs.declared.PrintRead.{PrintRead}
-use Rattle.reader.specs.declared.ReadAnswer.{ReadAnswer}
-use Rattle.reader.specs.declared.ReadAnswer.TheVariants.{Trade, Refused}
+use Rattle.reader.specs.declared.ReadAnswer.TheVariants.{Trade}
 use Rattle.reader.specs.Read.{trade_side, trade_head, trade_at}
-use Rattle.claim_longest.proofs.SideBack.{flag_of, shown_n, Reaches, side_reaches}
+use Rattle.claim_longest.proofs.SideBack.{flag_of, shown_n, side_reaches}
 use Rattle.line_owed.proofs.Shown.{some_price, shown_sold}
 use Rattle.rules.specs.declared.PriceForm.TheVariants.{Full}
 

@@ -1,6 +1,6 @@
 -- THE CLAIM (document 01, "Reader"): the answer at a place is the longest normal print there. Assumes nothing.
 use Rattle.std.specs.Prelude.{ℕ, ◌≤◌, ◌≡◌, List, ◌++◌, length, take, drop}
-use Rattle.std.proofs.Math.Option.{Option, none, some}
+use Rattle.std.proofs.Math.Option.{none, some}
 use Rattle.rules.specs.NormalPrint.{ReadFact, NormalPrint}
 use Rattle.reader.specs.Read.{read_at}
 use Rattle.reader.specs.Told.{length_of, name_at, fact_in}

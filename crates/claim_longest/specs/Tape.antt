@@ -1,6 +1,6 @@
 -- A tape of normal prints, and what is read of a tape print after print. Assumes nothing.
 use Rattle.std.specs.Prelude.{ℕ, zero, suc, List, [], ◌∷◌, ◌++◌, take, drop}
-use Rattle.std.proofs.Math.Option.{Option, none, some}
+use Rattle.std.proofs.Math.Option.{none, some}
 use Rattle.rules.specs.NormalPrint.{ReadFact, NormalPrint}
 use Rattle.reader.specs.Read.{read_at}
 use Rattle.reader.specs.Told.{length_of, name_at, fact_in}

@@ -1,11 +1,10 @@
 -- One line: an entry of the shown facts exactly where it is explained as announced or printed, and so exactly where it prints. Assumes nothing.
 use Prim.Native.Nat.{ℕ, ◌≤◌}
 use native.Mathlib.Omega.{arith}
-use mathlib.Core.Path.{◌≡◌, refl, ap, ◌∙◌}
+use mathlib.Core.Path.{◌≡◌, refl, ◌∙◌}
 use mathlib.Core.Bool.{Bool, true, false}
-use mathlib.Core.List.{List, [], ◌∷◌, ◌++◌}
+use mathlib.Core.List.{List, [], ◌∷◌}
 use mathlib.Core.Option.{Option, none, some}
-use lib.Dec.{leb}
 use lib.ListN.{length}
 use Rattle.text.specs.Pick.{pick}
 use Rattle.rules.specs.Sizes.{longest_print}
@@ -13,7 +12,7 @@ use Rattle.rules.specs.Trade.{prints_trade}
 use Rattle.rules.specs.Correction.{prints_correction, is_mpv}
 use Rattle.rules.specs.Announcement.{minimum_text, step_text}
 use Rattle.rules.specs.Line.{line_of}
-use Rattle.rules.specs.Day.{Day, Call, fresh, security_at, print_of, refusal_of, tape_of, after, ample}
+use Rattle.rules.specs.Day.{Day, Call, fresh, security_at, print_of, refusal_of, after, ample}
 use Rattle.rules.specs.Shown.{Fact, announced_if, fact_of, shown_by}
 use Rattle.rules.specs.declared.Mode.{Mode}
 use Rattle.rules.specs.declared.Mode.TheVariants.{Normal, Dvd, Rpo, Mpv}
@@ -27,7 +26,6 @@ use Rattle.claim_daytape.specs.Claim.{day_of_lines}
 use Rattle.claim_programs.proofs.Room.{never_short}
 use Rattle.explain_fate.specs.Explained.{security_of, trade_fate, cancel_fate, correction_fate, step_fate, fate_at, fate_of, fate_by, is_on_tape}
 use Rattle.explain_fate.specs.declared.Reasons.{Reasons}
-use Rattle.explain_fate.specs.declared.Fate.{Fate}
 use Rattle.explain_fate.specs.declared.Fate.TheVariants.{Refused, LeftOff, Printed}
 use Rattle.explain_fate.proofs.Prints.{on_tape_exactly}
 use Rattle.explain_fate.proofs.Numbers.{number_by}

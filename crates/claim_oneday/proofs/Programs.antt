@@ -6,11 +6,10 @@ use mathlib.Core.Bool.{Bool, true, false}
 use mathlib.Core.List.{List, [], ◌∷◌, ◌++◌}
 use mathlib.Core.Option.{Option, none, some}
 use lib.ListN.{length, take, replicate}
-use borrow.Author.Tests.{ne_eqb}
 use Rattle.text.specs.Pick.{pick}
 use Rattle.rules.specs.Sizes.{width, longest_print}
-use Rattle.rules.specs.Line.{is_shaped, line_of}
-use Rattle.rules.specs.Day.{Day, Call, fresh, print_of, refusal_of, tape_of, after, ample}
+use Rattle.rules.specs.Line.{line_of}
+use Rattle.rules.specs.Day.{Day, fresh, print_of, refusal_of, tape_of, after, ample}
 use Rattle.rules.specs.Shown.{Fact, announced_if, trade_fact, fact_of, shown_by}
 use Rattle.rules.specs.declared.Line.{Line}
 use Rattle.rules.specs.declared.Line.TheVariants.{Dated, Listed, Moded, Leveled, Stepped, Traded, Cancelled, Erred, Corrected}
@@ -18,7 +17,6 @@ use Rattle.rules.specs.declared.Refusal.{Refusal}
 use Rattle.rules.specs.declared.Refusal.TheVariants.{Shape}
 use Rattle.call_table.specs.Sizes.{table_size, names_size}
 use Rattle.call_table.specs.Rows.{day_of}
-use Rattle.line_owed.specs.Reached.{Reached}
 use Rattle.feed_blocks.specs.Lines.{lines_by}
 use Rattle.feed_gather.specs.Gather.{last_line}
 use Rattle.feed_step.specs.Step.{opening}
@@ -31,8 +29,6 @@ use Rattle.facts_block.specs.Shows.{facts_program, fact_room}
 use Rattle.facts_block.specs.Whole.{shown_text}
 use Rattle.facts_block.proofs.Whole as shown
 use Rattle.explain_fate.specs.Explained.{security_in, kind_in, fate_of, fate_by, explained_by}
-use Rattle.explain_fate.specs.declared.Explanation.{Explanation}
-use Rattle.explain_fate.specs.declared.Fate.{Fate}
 use Rattle.explain_fate.specs.declared.Fate.TheVariants.{Refused}
 use Rattle.explain_fate.proofs.Agree.{explained_small}
 use Rattle.explain_text.proofs.Short as explanation

@@ -1,33 +1,32 @@
 -- EVERY INPUT HAS A SESSION: one whose reads bring a byte each. Assumes nothing.
 use Prim.Native.Nat.{ℕ, zero, suc, ◌+◌, ◌-◌, ◌≤◌, ◌<◌}
 use native.Mathlib.Omega.{arith}
-use mathlib.Core.Path.{◌≡◌, refl, sym, ap, ◌∙◌, subst}
+use mathlib.Core.Path.{◌≡◌, refl, sym, ap, ◌∙◌}
 use mathlib.Core.Bool.{Bool, true, false, not}
 use mathlib.Core.List.{List, [], ◌∷◌, ◌++◌, append_assoc}
 use lib.Dec.{eqb}
 use lib.IntN.{ℤ, pos}
 use lib.ListN.{length, take, drop, replicate, length-append, length-take, length-drop}
-use lib.Seq.{take_at, drop_at, length-take-le, drop-length}
+use lib.Seq.{take_at, drop_at, length-take-le}
 use borrow.Author.Tests.{eqb-true}
 use Rattle.text.specs.Pick.{pick}
 use Rattle.text.specs.Put.{put}
 use Rattle.text.proofs.Booleans.{false_true}
 use Rattle.rules.specs.Day.{Day, fresh, after, ample}
 use Rattle.rules.specs.Sizes.{width}
-use Rattle.rules.specs.declared.Settings.{Settings}
 use Rattle.call_table.specs.Sizes.{table_size, names_size}
 use Rattle.call_table.specs.Rows.{day_of}
 use Rattle.line_owed.specs.Reached.{Reached}
 use Rattle.feed_blocks.specs.Lines.{cut}
-use Rattle.feed_gather.specs.Gather.{last_line, Program, Progress, started, carried, line_taken, room_left, lines_taken, block_taken}
+use Rattle.feed_gather.specs.Gather.{Program, Progress, started, carried, line_taken, room_left, lines_taken, block_taken}
 use Rattle.feed_gather.proofs.Blocks.{taken_on, taken_off, taken_none, room_out, room_err, room_number}
 use Rattle.feed_input.specs.Place.{Within, held, taken_in, gone_on, block_on}
-use Rattle.feed_input.specs.Answers.{Kept, Answers}
+use Rattle.feed_input.specs.Answers.{Answers}
 use Rattle.feed_input.specs.Answers.Answers.{unasked, came, fails}
 use Rattle.feed_input.specs.declared.Place.{Place}
-use Rattle.feed_input.proofs.Held.{After, length_held, in_came, in_quiet}
-use Rattle.feed_step.specs.Step.{opening, taken_by, used_by, passing_by, reads_by, is_over, standing_by, place_in, way_in, progress_in, Steps}
-use Rattle.feed_step.specs.Session.{Turn, Session, next, last}
+use Rattle.feed_input.proofs.Held.{length_held, in_came, in_quiet}
+use Rattle.feed_step.specs.Step.{opening, taken_by, used_by, reads_by, is_over, standing_by, place_in, way_in, progress_in, Steps}
+use Rattle.feed_step.specs.Session.{Turn, next, last}
 use Rattle.feed_step.specs.declared.Standing.{Standing}
 use Rattle.feed_step.specs.declared.Stepped.{Stepped}
 use Rattle.feed_step.specs.declared.Way.{Way}
@@ -37,7 +36,7 @@ use Rattle.feed_step.proofs.How.{How}
 use Rattle.feed_step.proofs.Steps.{in_place, same_size}
 use Rattle.claim_programs.specs.Told.{Text, Tells}
 use Rattle.claim_programs.specs.Exists.{Fits, final, Ends, all_read, behind_last, Has}
-use Rattle.claim_programs.proofs.Lines.{Holds, On, Took, takes}
+use Rattle.claim_programs.proofs.Lines.{On, takes}
 use Rattle.claim_programs.proofs.Session as session
 use Rattle.claim_programs.proofs.Turns as turns
 

@@ -1,13 +1,11 @@
 -- One line: what a program tells of it, and the day behind it. Assumes nothing.
 use Prim.Native.Nat.{ℕ, ◌+◌, ◌-◌, ◌≤◌, ◌<◌}
-use native.Mathlib.Omega.{arith}
 use mathlib.Core.Path.{◌≡◌, refl, sym, ap, ◌∙◌}
-use mathlib.Core.Bool.{Bool, true, false, not}
+use mathlib.Core.Bool.{false}
 use mathlib.Core.List.{List, [], ◌∷◌, ◌++◌}
 use mathlib.Core.Option.{Option, none, some}
-use lib.Dec.{leb, eqb}
 use lib.ListN.{length, replicate, length-replicate}
-use borrow.Author.Tests.{le-leb, lt-leb, leb-true, leb-false, ne_eqb}
+use borrow.Author.Tests.{le-leb, lt-leb, ne_eqb}
 use Rattle.text.specs.Pick.{pick}
 use Rattle.text.specs.Put.{put}
 use Rattle.rules.specs.Day.{Day, Call, refusal_of, after_line, after, ample}
@@ -23,7 +21,7 @@ use Rattle.call_plan.specs.declared.Plan.{Plan}
 use Rattle.call_print.specs.Print.{print_of}
 use Rattle.call_state.specs.After.{settings_after, table_after, names_after}
 use Rattle.engine.specs.declared.Answer.{Answer}
-use Rattle.engine.specs.Taken.{asked, outcome_of, Taken}
+use Rattle.engine.specs.Taken.{asked, outcome_of}
 use Rattle.engine.proofs.Numbers.{taken_as}
 use Rattle.line_owed.specs.Reached.{Reached}
 use Rattle.line_owed.proofs.Reached.{kept_call}

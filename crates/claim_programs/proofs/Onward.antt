@@ -1,30 +1,30 @@
 -- THE INVARIANT'S STEP: what a step tells, and what is yet to be told behind it, is what was yet to be told, whatever bytes come. Assumes nothing.
-use Prim.Native.Nat.{ℕ, suc, ◌+◌, ◌-◌, ◌≤◌, ◌<◌}
+use Prim.Native.Nat.{ℕ, ◌+◌, ◌-◌, ◌≤◌, ◌<◌}
 use native.Mathlib.Omega.{arith}
-use mathlib.Core.Path.{◌≡◌, refl, sym, ap, ◌∙◌}
-use mathlib.Core.Bool.{Bool, true, false, ◌&&◌}
+use mathlib.Core.Path.{◌≡◌, refl, sym}
+use mathlib.Core.Bool.{Bool, true, false}
 use mathlib.Core.List.{List, [], ◌∷◌, ◌++◌, append-nil}
-use lib.Dec.{leb, ltb}
-use lib.ListN.{length, take, drop, length-append}
+use lib.Dec.{ltb}
+use lib.ListN.{length, drop}
 use lib.Seq.{drop-length}
-use borrow.Author.Tests.{le-leb, le-ltb, lt-ltb}
+use borrow.Author.Tests.{le-leb, lt-ltb}
 use Rattle.text.specs.Pick.{pick}
 use Rattle.text.proofs.Booleans.{false_true}
 use Rattle.rules.specs.Day.{Day, after, ample}
 use Rattle.rules.specs.Sizes.{width}
 use Rattle.rules.specs.declared.Settings.{Settings}
 use Rattle.feed_blocks.specs.Lines.{line_length, cut}
-use Rattle.feed_gather.specs.Gather.{last_line, Program, Progress, started, line_taken, room_left, lines_taken, block_taken}
+use Rattle.feed_gather.specs.Gather.{last_line, Program, Progress, started, room_left, lines_taken, block_taken}
 use Rattle.feed_gather.proofs.Blocks.{taken_on, taken_none}
 use Rattle.feed_input.specs.declared.Place.{Place}
-use Rattle.feed_step.specs.Step.{taken_by, used_by, passing_by, reads_by, is_over}
+use Rattle.feed_step.specs.Step.{taken_by, used_by, passing_by, is_over}
 use Rattle.feed_step.specs.declared.Way.{Way}
-use Rattle.feed_step.specs.declared.Way.TheVariants.{Lines, Line, Pass, Stop}
+use Rattle.feed_step.specs.declared.Way.TheVariants.{Lines, Line, Pass}
 use Rattle.feed_step.proofs.How.{How, fails, past, done, long_ends, long_last, long_on, lines, last, fills, waits}
 use Rattle.claim_programs.specs.Told.{Text, Tells}
 use Rattle.claim_programs.proofs.Lines.{Holds, On, Took, takes}
 use Rattle.claim_programs.proofs.Goes.{goes}
-use Rattle.claim_programs.proofs.Rest.{rest, rest_past, rest_none, rest_broken, rest_on, rest_fills, rest_ends, rest_last, rest_one, rest_lines}
+use Rattle.claim_programs.proofs.Rest.{rest, rest_on, rest_fills, rest_ends, rest_last, rest_one, rest_lines}
 
 module _ {g : Program} {out err : Text} (tells : Tells g out err) (room told size : ℕ) (big : width < size) (wide : g.out_most ≤ room) (deep : g.err_most ≤ told)
     (passing : Bool) (p : Place) (number : ℕ) (u : List ℕ) (st : Settings) (table names : List ℕ) (day : Day) (h : Holds st table names day) where

@@ -1,24 +1,23 @@
 -- THE THEOREM OF THE WHOLE INPUT: whatever the reads, a session tells of the lines of the input. Assumes nothing.
-use Prim.Native.Nat.{ℕ, ◌+◌, ◌-◌, ◌≤◌, ◌<◌}
+use Prim.Native.Nat.{ℕ, ◌≤◌, ◌<◌}
 use native.Mathlib.Omega.{arith}
 use mathlib.Core.Path.{◌≡◌, refl, sym, ap, ◌∙◌}
 use mathlib.Core.Bool.{Bool, true, false, not}
 use mathlib.Core.List.{List, [], ◌∷◌, ◌++◌, append_assoc, append-nil}
 use lib.IntN.{ℤ}
-use lib.ListN.{length, take, drop, replicate, length-drop}
+use lib.ListN.{length, take, drop, replicate}
 use lib.Seq.{drop-length, take_at}
 use Rattle.text.specs.Put.{put, Written}
 use Rattle.text.proofs.Booleans.{false_true}
-use Rattle.rules.specs.Day.{Day, opened, fresh}
+use Rattle.rules.specs.Day.{Day, fresh}
 use Rattle.rules.specs.Sizes.{width}
 use Rattle.rules.specs.declared.Settings.{Settings}
 use Rattle.call_table.specs.Sizes.{table_size, names_size}
 use Rattle.call_table.proofs.Held.{held_cleared}
 use Rattle.line_owed.proofs.Reached.{kept_fresh}
 use Rattle.feed_blocks.specs.Lines.{line_length, lines_by}
-use Rattle.feed_gather.specs.Gather.{last_line, Program, Progress, started}
-use Rattle.feed_input.specs.Place as input
-use Rattle.feed_input.specs.Place.{Within, held, taken_in, gone_on, block_on}
+use Rattle.feed_gather.specs.Gather.{Program, Progress, started}
+use Rattle.feed_input.specs.Place.{Within, held, taken_in, gone_on}
 use Rattle.feed_input.specs.Answers.{Answers}
 use Rattle.feed_input.specs.Answers.Answers.{unasked, came, fails}
 use Rattle.feed_input.specs.declared.Place.{Place}

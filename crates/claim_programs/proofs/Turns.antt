@@ -4,14 +4,14 @@ use native.Mathlib.Omega.{arith}
 use mathlib.Core.Path.{◌≡◌, refl, sym, ap, ◌∙◌}
 use mathlib.Core.Bool.{Bool, true, false}
 use mathlib.Core.List.{List, [], ◌∷◌, ◌++◌}
-use lib.Dec.{leb, ltb}
+use lib.Dec.{ltb}
 use lib.ListN.{length, take, drop, length-append, length-drop}
 use borrow.Author.Tests.{le-leb}
 use Rattle.text.specs.Pick.{pick}
 use Rattle.text.proofs.Booleans.{false_true}
 use Rattle.rules.specs.declared.Settings.{Settings}
 use Rattle.feed_blocks.specs.Lines.{line_length, cut}
-use Rattle.feed_gather.specs.Gather.{last_line, Program, Progress, started, carried, line_taken, room_left, lines_taken, block_taken}
+use Rattle.feed_gather.specs.Gather.{last_line, Program, Progress, started, line_taken, room_left, lines_taken, block_taken}
 use Rattle.feed_gather.proofs.Blocks.{taken_on, taken_off, taken_none}
 use Rattle.feed_gather.proofs.Within.{ended_line, line_at}
 use Rattle.feed_input.specs.Place.{Within, held}
@@ -22,7 +22,6 @@ use Rattle.feed_step.specs.Session.{Turn, Session, next, last, turns}
 use Rattle.feed_step.specs.declared.Standing.{Standing}
 use Rattle.feed_step.specs.declared.Stepped.{Stepped}
 use Rattle.feed_step.specs.declared.Way.{Way}
-use Rattle.feed_step.specs.declared.Way.TheVariants.{Lines, Line, Pass, Stop}
 use Rattle.feed_step.proofs.How as how
 use Rattle.feed_step.proofs.How.{How}
 use Rattle.feed_step.proofs.Steps.{stands_within, same_size, uses}

@@ -1,6 +1,5 @@
 -- That there are sessions: what a program tells fits the memory that it is lent, and what a session of an input leaves unread. Assumes nothing.
 use Rattle.std.specs.Prelude.{ℕ, ◌≤◌, ◌<◌, ◌≡◌, Bool, true, List, [], ◌++◌, length}
-use Rattle.rules.specs.Day.{Day}
 use Rattle.rules.specs.declared.Settings.{Settings}
 use Rattle.call_table.specs.Sizes.{table_size, names_size}
 use Rattle.call_table.specs.Rows.{day_of}

@@ -1,5 +1,5 @@
 -- Each accepted line but a D owes what the decoder asks for. Assumes nothing.
-use Prim.Native.Nat.{ℕ, zero, suc, ◌+◌, ◌-◌, ◌≤◌, ◌<◌}
+use Prim.Native.Nat.{ℕ, zero, suc, ◌-◌, ◌≤◌, ◌<◌}
 use native.Mathlib.Omega.{arith}
 use mathlib.Core.Path.{◌≡◌, refl, sym, ap, ◌∙◌}
 use mathlib.Core.Bool.{Bool, true, false, ◌&&◌, not}
@@ -10,7 +10,7 @@ use lib.ListN.{length, get_or, set, get_or-map}
 use lib.Seq.{map-set_same}
 use Rattle.text.specs.Bytes.{bytes}
 use Rattle.text.specs.Pick.{pick, opt}
-use Rattle.text.specs.Reading.{found, heads, starts}
+use Rattle.text.specs.Reading.{heads, starts}
 use Rattle.text.proofs.Parts.{heads_append}
 use Rattle.rules.specs.Tape.{is_letter}
 use Rattle.rules.specs.Columns.{between}
@@ -37,7 +37,6 @@ use Rattle.text.proofs.Booleans.{false_true}
 use Rattle.rules.proofs.Fields.{level_below}
 use Rattle.print_volume.specs.Reading.{unsaid, shown_of}
 use Rattle.print_price.specs.Reading.{shown_price}
-use Rattle.print_announcement.specs.Reading.{Told, minimum}
 use Rattle.name_back.specs.Plain.{NamePlain}
 use Rattle.name_back.proofs.Back.{name_head}
 use Rattle.claim_decoder.specs.Carried.{printed_of, carried_of, next}

@@ -1,9 +1,9 @@
 -- DEMAND 3, proved. Two lists of calls, each from a fresh state: where the tapes are equal, the facts are. Assumes nothing.
 -- Both are what one decoder finds on the tape, by the names of the accepted S lines. It carries the mode and the last printed prices, which the tape shows.
-use Prim.Native.Nat.{ℕ, ◌-◌, ◌<◌}
+use Prim.Native.Nat.{ℕ, ◌<◌}
 use native.Mathlib.Omega.{arith}
 use mathlib.Core.Path.{◌≡◌, refl, sym, ap, ◌∙◌, subst}
-use mathlib.Core.Logic.{◌⊎◌, ⊎_elim}
+use mathlib.Core.Logic.{⊎_elim}
 use mathlib.Core.Bool.{Bool, true, false, ◌&&◌}
 use mathlib.Core.List.{List, [], ◌∷◌, ◌++◌}
 use mathlib.Core.Option.{Option, none, some}

@@ -1,7 +1,7 @@
 -- Laws of the rules of "Corrections and cancels", in the form of the code's needs. Assumes nothing.
 use Prim.Native.Nat.{ℕ, ◌/◌}
-use mathlib.Core.Path.{◌≡◌, refl}
-use mathlib.Core.Bool.{Bool, true, false, ◌&&◌, ◌||◌, not}
+use mathlib.Core.Path.{◌≡◌}
+use mathlib.Core.Bool.{Bool, true, false, ◌||◌, not}
 use lib.Dec.{eqb, leb}
 use Rattle.rules.specs.Price.{whole_part, units, form_by}
 use Rattle.rules.specs.Conditions.{has_rule}

@@ -1,8 +1,8 @@
 -- Parts of the rules of "Trades by mode", over a price's whole part or its value. Assumes nothing.
-use Rattle.std.specs.Prelude.{ℕ, Bool, ◌&&◌, ◌||◌, not, leb, eqb}
+use Rattle.std.specs.Prelude.{ℕ, Bool, ◌&&◌, ◌||◌}
 use Rattle.rules.specs.Price.{units}
 use Rattle.rules.specs.Qualifying.{for_last}
-use Rattle.rules.specs.Trade.{six, first_qualifying, new_high, new_low, new_range, tens, ends_in_zero, dollars, prints_anyhow, unlike_printed, far_from_printed}
+use Rattle.rules.specs.Trade.{first_qualifying, new_high, new_low, new_range, prints_anyhow, unlike_printed, far_from_printed}
 use Rattle.rules.specs.declared.Side.{Side}
 use Rattle.rules.specs.declared.Settings.{Settings}
 use Rattle.rules.specs.declared.Printed.{Printed}

@@ -9,14 +9,13 @@ use lib.ListN.{length}
 use borrow.Author.Tests.{le-ltb, lt-ltb, ne_eqb, leb-true, leb-false, not-true, not-false}
 use Rattle.text.specs.Put.{put, Written}
 use Rattle.text.specs.Pick.{pick, among}
-use Rattle.text.proofs.Texts.{and_left, and_right}
+use Rattle.text.proofs.Texts.{and_left}
 use Rattle.text.proofs.Booleans.{and_false}
 use Rattle.rules.specs.Columns.{column}
 use Rattle.rules.specs.Conditions.{on_network}
-use Rattle.rules.specs.Names.{name_text}
 use Rattle.rules.specs.Day.{is_entered}
 use Rattle.rules.specs.Trade.{after_trade}
-use Rattle.rules.specs.Line.{is_shaped, is_kind, is_formed, is_ranged, line_of, first_side, trade_formed, trade_ranged, trade_of}
+use Rattle.rules.specs.Line.{is_shaped, is_kind, is_formed, is_ranged, line_of, first_side, trade_of}
 use Rattle.rules.specs.declared.Line.TheVariants.{Traded}
 use Rattle.rules.specs.declared.Parsed.{Parsed}
 use Rattle.rules.specs.declared.Trade.{Trade}
@@ -30,7 +29,7 @@ use Rattle.call_table.specs.Rows.{row, with_row, name_of}
 use Rattle.line_owed.specs.Owed.{OwedTrade, SideColumns}
 use Rattle.line_owed.proofs.Owed.{long, trade_owed, trade_stands}
 use Rattle.line_trade.specs.declared.TradeLine.{TradeLine}
-use Rattle.line_trade.specs.TradeLine.{is_good, trade_line, side_in}
+use Rattle.line_trade.specs.TradeLine.{trade_line, side_in}
 use Rattle.line_trade.proofs.Lines.{good_no, good_shaped, good_kind, good_formed, good_ranged, good_trade}
 use Rattle.call_trade.specs.declared.TradeAnswer.{TradeAnswer}
 use Rattle.call_trade.specs.Traded.{trade_text, untaken_of, Carried}

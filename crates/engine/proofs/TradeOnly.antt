@@ -4,16 +4,13 @@ use native.Mathlib.Omega.{arith}
 use mathlib.Core.Path.{◌≡◌, refl, sym, ap, ◌∙◌}
 use mathlib.Core.Bool.{Bool, true, false, ◌&&◌, not}
 use mathlib.Core.List.{List}
-use lib.Dec.{eqb, ltb}
-use lib.ListN.{length}
-use borrow.Author.Tests.{eqb-true, eq-eqb, not-true, not-false}
+use lib.Dec.{eqb}
+use borrow.Author.Tests.{eqb-true, eq-eqb, not-false}
 use Rattle.text.specs.Pick.{pick}
 use Rattle.text.proofs.Texts.{and_left}
 use Rattle.rules.specs.Columns.{column}
 use Rattle.rules.specs.Conditions.{on_network}
-use Rattle.rules.specs.Day.{is_entered}
-use Rattle.rules.specs.Line.{is_shaped, is_kind, is_formed, is_ranged, line_of, name_columns, of_kind, trade_formed, trade_ranged, trade_of}
-use Rattle.rules.specs.declared.Line.{Line}
+use Rattle.rules.specs.Line.{is_shaped, is_formed, is_ranged, line_of, name_columns, of_kind, trade_formed, trade_ranged, trade_of}
 use Rattle.rules.specs.declared.Line.TheVariants.{Dated, Listed, Moded, Leveled, Stepped, Traded, Cancelled, Erred, Corrected}
 use Rattle.rules.specs.declared.Mode.{Mode}
 use Rattle.rules.specs.declared.Parsed.{Parsed}
@@ -24,12 +21,12 @@ use Rattle.rules.specs.declared.Settings.{Settings}
 use Rattle.rules.specs.declared.Security.{Security}
 use Rattle.call_table.specs.Rows.{row}
 use Rattle.line_trade.specs.TradeLine.{is_good}
-use Rattle.rules.specs.declared.Refusal.TheVariants.{NoDate, NotEntered, Conditions, Unmatched}
+use Rattle.rules.specs.declared.Refusal.TheVariants.{NoDate}
 use Rattle.rules.proofs.ByKind.{by_kind}
 use Rattle.call_plan.specs.declared.Plan.{Plan}
-use Rattle.call_plan.specs.declared.Plan.TheVariants.{Stop, Print}
-use Rattle.call_plan.specs.Plan.{date_plan, listing_plan, unless_stopped, print_plan, trade_plan, cancel_of, cancel_plan, correction_of, correction_plan, line_plan, read_plan, plan_of}
-use Rattle.call_print.specs.Print.{printed_name, text_of, fitted_of}
+use Rattle.call_plan.specs.declared.Plan.TheVariants.{Stop}
+use Rattle.call_plan.specs.Plan.{date_plan, listing_plan, unless_stopped, trade_plan, cancel_plan, correction_plan, line_plan, read_plan, plan_of}
+use Rattle.call_print.specs.Print.{fitted_of}
 use Rattle.engine.specs.Taken.{asked, is_trade}
 
 pub of_trade : (line : List ℕ) → column 1 line ≡ 84 → of_kind (column 1 line) line ≡ record { formed = trade_formed line; ranged = trade_ranged line; line = Traded (trade_of line) }

@@ -1,22 +1,17 @@
 -- One call, put together: its explanation, the explanation's line, the day after it. Assumes nothing.
-use Prim.Native.Nat.{ℕ, ◌+◌, ◌-◌, ◌^◌, ◌≤◌, ◌<◌}
+use Prim.Native.Nat.{ℕ, ◌≤◌}
 use native.Mathlib.Omega.{arith}
-use mathlib.Core.Path.{◌≡◌, refl, sym, ap, ◌∙◌}
-use mathlib.Core.List.{List, ◌++◌}
-use mir.Val.{Fits}
-use mir.Syntax.{w64}
-use lib.ListN.{length, take, drop, length-take, length-drop}
+use mathlib.Core.Path.{◌≡◌}
+use mathlib.Core.List.{List}
+use lib.ListN.{length}
 use Rattle.text.specs.Put.{Written}
-use Rattle.text.proofs.Writing.{then}
-use Rattle.rules.specs.Day.{Day, Call, after, ample}
+use Rattle.rules.specs.Day.{Day, ample}
 use Rattle.rules.specs.declared.Settings.{Settings}
 use Rattle.rules.specs.Sizes.{longest_print}
 use Rattle.call_table.specs.Sizes.{table_size, names_size}
 use Rattle.call_table.specs.Rows.{day_of}
 use Rattle.engine.specs.declared.Answer.{Answer}
 use Rattle.engine.specs.Taken.{Taken}
-use Rattle.claim_calls.specs.Run.{State, Lent}
-use Rattle.claim_calls.proofs.Runs.{link_held}
 use Rattle.explain_fate.specs.Explained.{explained_by}
 use Rattle.explain_fate.specs.declared.Explanation.{Explanation}
 use Rattle.explain_fate.proofs.Agree.{explained_small}

@@ -1,5 +1,5 @@
 -- What `explain` tells of a line: its explanation (crate explain_text), each call lent a tape of `longest_print` bytes. Assumes nothing.
-use Rattle.std.specs.Prelude.{ℕ, List, []}
+use Rattle.std.specs.Prelude.{ℕ, []}
 use Rattle.rules.specs.Sizes.{longest_print}
 use Rattle.call_table.specs.Rows.{day_of}
 use Rattle.feed_gather.specs.Gather.{Program}

@@ -1,6 +1,6 @@
 -- What is explained as printed has a reason; what is explained as refused, accepted or left off puts nothing on the tape. Assumes nothing.
 use Prim.Native.Nat.{ℕ}
-use mathlib.Core.Path.{◌≡◌, refl, sym, ap, ◌∙◌}
+use mathlib.Core.Path.{◌≡◌, refl, sym}
 use mathlib.Core.Bool.{Bool, true, false, false≢true}
 use mathlib.Core.List.{List, []}
 use mathlib.Core.Option.{Option, none, some}
@@ -21,8 +21,7 @@ use Rattle.explain_reasons.specs.Reasons.{always, some_print}
 use Rattle.explain_reasons.proofs.Exactly as reasons
 use Rattle.explain_fate.specs.Explained.{security_of, trade_fate, cancel_fate, correction_fate, step_fate, fate_at, fate_of, fate_by, is_on_tape, is_reasoned}
 use Rattle.explain_fate.specs.declared.Reasons.{Reasons}
-use Rattle.explain_fate.specs.declared.Fate.{Fate}
-use Rattle.explain_fate.specs.declared.Fate.TheVariants.{Refused, Accepted, Announced, LeftOff, Printed}
+use Rattle.explain_fate.specs.declared.Fate.TheVariants.{Refused, LeftOff, Printed}
 
 -- ---- a print has a reason
 

@@ -1,7 +1,6 @@
 -- An explanation says what the rules say of its call: number, kind, security, on the tape or not, and a reason. Assumes nothing.
-use Prim.Native.Nat.{ℕ}
 use mathlib.Core.Path.{◌≡◌, refl, ap, ◌∙◌}
-use mathlib.Core.Bool.{Bool, true, false}
+use mathlib.Core.Bool.{Bool}
 use mathlib.Core.Option.{Option, none, some}
 use Rattle.text.specs.Pick.{pick}
 use Rattle.text.proofs.Booleans.{pick_cases}

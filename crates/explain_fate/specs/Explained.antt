@@ -1,6 +1,6 @@
 -- What becomes of a line, and why, by the rules: the reasons (crate explain_reasons) of what prints, on the day that a call finds. Assumes nothing.
 use Rattle.std.specs.Prelude.{ℕ, ◌≡◌, Bool, true, false, ◌&&◌, List, leb, length}
-use Rattle.std.proofs.Math.Option.{Option, none, some}
+use Rattle.std.proofs.Math.Option.{none, some}
 use Rattle.text.specs.Pick.{pick}
 use Rattle.rules.specs.Columns.{column}
 use Rattle.rules.specs.Trade.{prints_trade}
@@ -9,7 +9,6 @@ use Rattle.rules.specs.Line.{is_shaped, is_kind, is_formed, is_ranged, line_of}
 use Rattle.rules.specs.Refusal.{number_of, refusal_number}
 use Rattle.rules.specs.Day.{Day, Call, security_at, refusal_of, tape_of}
 use Rattle.rules.specs.declared.Mode.{Mode}
-use Rattle.rules.specs.declared.Listing.{Listing}
 use Rattle.rules.specs.declared.Trade.{Trade}
 use Rattle.rules.specs.declared.Correction.{Correction}
 use Rattle.rules.specs.declared.Line.{Line}
@@ -17,7 +16,6 @@ use Rattle.rules.specs.declared.Line.TheVariants.{Dated, Listed, Moded, Leveled,
 use Rattle.rules.specs.declared.Settings.{Settings}
 use Rattle.rules.specs.declared.Security.{Security}
 use Rattle.explain_reasons.specs.Reasons.{always, trade_prints, correction_prints, trade_full_by, correction_full_by, cancel_full_by, trade_shows_by, correction_shows_by, cancel_shows_by, some_print}
-use Rattle.explain_fate.specs.declared.Reasons.{Reasons}
 use Rattle.explain_fate.specs.declared.Fate.{Fate}
 use Rattle.explain_fate.specs.declared.Fate.TheVariants.{Refused, Accepted, Announced, LeftOff, Printed}
 use Rattle.explain_fate.specs.declared.Explanation.{Explanation}

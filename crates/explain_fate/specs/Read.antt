@@ -1,7 +1,6 @@
 -- What becomes of a line, by what the code has in hand: the plan that it asks for, and the line as it is read. Assumes nothing.
 use Rattle.std.specs.Prelude.{ℕ, ◌-◌, List}
 use Rattle.std.proofs.Math.Option.{Option, none, some}
-use Rattle.rules.specs.declared.Line.{Line}
 use Rattle.rules.specs.declared.Refusal.{Refusal}
 use Rattle.rules.specs.declared.Settings.{Settings}
 use Rattle.line_kinds.specs.declared.Reading as dayline

@@ -216,7 +216,7 @@ pub fn explain_line(
     line: &[u8],
     room: usize,
 ) -> Explanation
-    ensures { Explained (day_of st table.now names.now) (record { line = line.entry.now; room = room }) result }
+    ensures { Explained (day_of st table.now names.now) (record { line = line.now; room = room }) result }
 {
     // as slices the tables tell their sizes
     let _rows = &table[..];

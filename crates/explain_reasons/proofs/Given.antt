@@ -1,6 +1,6 @@
 -- What the code's answers, put together, are: in the form of the code's needs. Assumes nothing.
 use Prim.Native.Nat.{ℕ}
-use mathlib.Core.Path.{◌≡◌, refl}
+use mathlib.Core.Path.{◌≡◌}
 use mathlib.Core.Bool.{Bool, true, false, ◌&&◌, ◌||◌, not}
 use lib.Dec.{leb, eqb}
 use Rattle.text.specs.Pick.{pick}
@@ -18,7 +18,7 @@ use Rattle.rules.specs.declared.Settings.{Settings}
 use Rattle.rules.specs.declared.Range.{Range}
 use Rattle.rules.specs.declared.Security.{Security}
 use Rattle.decide_levels.specs.Parts.{last_unlike, last_far}
-use Rattle.explain_reasons.specs.Reasons.{in_mode, always, in_normal, shown_in_normal, tens_left, rpo_trade, mpv_trade, trade_prints, dvd_correction, later_correction, correction_prints, full_by, trade_full_by, correction_full_by, cancel_full_by, trade_shows_by, correction_shows_by, cancel_shows_by}
+use Rattle.explain_reasons.specs.Reasons.{in_mode, in_normal, shown_in_normal, tens_left, rpo_trade, mpv_trade, dvd_correction, later_correction, full_by, trade_full_by, correction_full_by, cancel_full_by, trade_shows_by, correction_shows_by, cancel_shows_by}
 use Rattle.explain_reasons.specs.declared.PrintReasons.{PrintReasons}
 use Rattle.explain_reasons.specs.declared.FullReasons.{FullReasons}
 use Rattle.explain_reasons.specs.declared.VolumeReasons.{VolumeReasons}

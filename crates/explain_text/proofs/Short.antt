@@ -1,22 +1,16 @@
 -- How long the line of an explanation is: at most 238 bytes. Assumes nothing.
-use Prim.Native.Nat.{ℕ, ◌+◌, ◌^◌, ◌≤◌, ◌<◌}
+use Prim.Native.Nat.{ℕ, ◌≤◌}
 use native.Mathlib.Omega.{arith}
-use mathlib.Core.Path.{◌≡◌, refl}
 use mathlib.Core.Bool.{Bool, true, false}
-use mathlib.Core.List.{List, [], ◌∷◌}
 use lib.Dec.{eqb}
 use lib.ListN.{length, length-append}
 use Rattle.text.specs.Bytes.{bytes}
-use Rattle.text.specs.Decimal.{decimal}
 use Rattle.text.specs.Pick.{pick}
 use Rattle.text.proofs.Decimal.{length_decimal}
 use Rattle.text_right.specs.Justified.{right}
 use Rattle.text_right.proofs.Writes.{length_right}
 use Rattle.rules.specs.Refusal.{number_of}
-use Rattle.rules.specs.declared.Refusal.{Refusal}
-use Rattle.rules.specs.declared.Refusal.TheVariants.{Shape, Kind, NoDate, Form, Value, NotEntered, InUse, Name, SameName, Conditions, Unmatched, DateOrder, Room, NoPrint}
 use Rattle.rules.proofs.Refusals.{number_most}
-use Rattle.explain_words.specs.Text.{reasons_text}
 use Rattle.explain_words.proofs.Short.{reasons_short}
 use Rattle.explain_fate.specs.declared.Fate.{Fate}
 use Rattle.explain_fate.specs.declared.Fate.TheVariants.{Refused, Accepted, Announced, LeftOff, Printed}

@@ -6,7 +6,6 @@ use Rattle.text.specs.Decimal.{decimal}
 use Rattle.text_right.specs.Justified.{right}
 use Rattle.rules.specs.Refusal.{number_of}
 use Rattle.explain_words.specs.Text.{reasons_text}
-use Rattle.explain_fate.specs.declared.Reasons.{Reasons}
 use Rattle.explain_fate.specs.declared.Fate.{Fate}
 use Rattle.explain_fate.specs.declared.Fate.TheVariants.{Refused, Accepted, Announced, LeftOff, Printed}
 use Rattle.explain_fate.specs.declared.Explanation.{Explanation}

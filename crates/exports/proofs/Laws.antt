@@ -15,7 +15,7 @@ use Rattle.facts_entry.specs.declared.Entry.{Entry}
 use Rattle.facts_entry.specs.Entry.{fact_in}
 use Rattle.facts_numbers.specs.Numbers.{entry_numbers}
 use Rattle.engine.specs.declared.Outcome.{Outcome}
-use Rattle.engine.specs.declared.Outcome.TheVariants.{Accepted, Refused}
+use Rattle.engine.specs.declared.Outcome.TheVariants.{Accepted}
 use Rattle.engine.specs.declared.Answer.{Answer}
 use Rattle.engine.specs.Taken.{Taken, answer_of, count_of}
 use Rattle.reader.specs.declared.ReadAnswer.{ReadAnswer}

@@ -1,28 +1,22 @@
 -- One call, put together: its print, its entry, the entry's line. Assumes nothing.
-use Prim.Native.Nat.{ℕ, ◌+◌, ◌-◌, ◌≤◌, ◌<◌}
+use Prim.Native.Nat.{ℕ, ◌≤◌}
 use native.Mathlib.Omega.{arith}
-use mathlib.Core.Path.{◌≡◌, refl, sym, ap, ◌∙◌}
-use mathlib.Core.List.{List, [], ◌++◌}
-use mathlib.Core.Option.{Option}
-use lib.ListN.{length, take, drop, length-append, length-take, length-drop}
+use mathlib.Core.Path.{◌≡◌, refl, ap, ◌∙◌}
+use mathlib.Core.List.{List}
+use lib.ListN.{length, take, drop, length-append, length-take}
 use Rattle.text.specs.Put.{put, Written}
-use Rattle.text.proofs.Writing.{then, named}
-use Rattle.rules.specs.Day.{Day, Call, tape_of, after, ample}
-use Rattle.rules.specs.Shown.{Fact, shown_by}
-use Rattle.rules.specs.declared.Refusal.{Refusal}
+use Rattle.rules.specs.Day.{Day, tape_of, after, ample}
+use Rattle.rules.specs.Shown.{shown_by}
 use Rattle.rules.specs.declared.Settings.{Settings}
 use Rattle.rules.specs.Sizes.{longest_print}
 use Rattle.call_table.specs.Sizes.{table_size, names_size}
 use Rattle.call_table.specs.Rows.{day_of}
-use Rattle.engine.specs.declared.Outcome.{Outcome}
-use Rattle.engine.specs.declared.Outcome.TheVariants.{Accepted, Refused}
 use Rattle.engine.specs.declared.Answer.{Answer}
 use Rattle.engine.specs.Taken.{asked, Taken, count_of}
 use Rattle.call_print.specs.Print.{print_of}
 use Rattle.claim_calls.specs.Run.{State, Lent}
 use Rattle.claim_calls.proofs.Runs.{link_held}
 use Rattle.facts_entry.specs.Entry.{fact_in}
-use Rattle.facts_entry.specs.Short.{ShortShown}
 use Rattle.facts_entry.specs.declared.Entry.{Entry}
 use Rattle.facts_entry.proofs.Agree.{short_shown}
 use Rattle.facts_line.specs.Lines.{line_of}

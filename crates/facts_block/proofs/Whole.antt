@@ -1,15 +1,10 @@
 -- The text of the shown facts, line by line. Assumes nothing.
-use Prim.Native.Nat.{ℕ, ◌+◌, ◌-◌, ◌≤◌}
-use native.Mathlib.Omega.{arith}
-use mathlib.Core.Path.{◌≡◌, refl, sym, ap, ◌∙◌}
-use mathlib.Core.List.{List, [], ◌∷◌, ◌++◌, append_assoc, append-nil}
+use Prim.Native.Nat.{ℕ}
+use mathlib.Core.Path.{◌≡◌, refl}
+use mathlib.Core.List.{List, [], ◌∷◌, ◌++◌}
 use mathlib.Core.Option.{Option, none, some}
-use lib.ListN.{length, length-append}
-use Rattle.rules.specs.Day.{Day, Call, after, ample}
+use Rattle.rules.specs.Day.{Day, after, ample}
 use Rattle.rules.specs.Shown.{Fact, entries, shown_by, shown}
-use Rattle.rules.specs.declared.Settings.{Settings}
-use Rattle.call_table.specs.Rows.{day_of}
-use Rattle.feed_blocks.specs.Lines.{cut}
 use Rattle.facts_line.specs.Lines.{line_of}
 use Rattle.facts_block.specs.Whole.{facts_text, calls_of, shown_text}
 

@@ -1,5 +1,5 @@
 -- What `factlines` tells of a line: the line of its shown facts (crate facts_line), each call lent a tape of `longest_print` bytes. Assumes nothing.
-use Rattle.std.specs.Prelude.{ℕ, ◌+◌, List, []}
+use Rattle.std.specs.Prelude.{ℕ, ◌+◌, []}
 use Rattle.rules.specs.Shown.{shown_by}
 use Rattle.rules.specs.Sizes.{longest_print}
 use Rattle.call_table.specs.Rows.{day_of}

@@ -1,12 +1,11 @@
 -- What each part of an entry and each case of a plan says, in the form of the code's needs. Assumes nothing.
-use Prim.Native.Nat.{ℕ, suc, ◌+◌, ◌-◌, ◌*◌, ◌≤◌, ◌<◌}
+use Prim.Native.Nat.{ℕ, suc, ◌+◌, ◌-◌, ◌*◌}
 use native.Mathlib.Omega.{arith}
-use mathlib.Core.Path.{◌≡◌, refl, sym, ap, ◌∙◌}
-use mathlib.Core.Bool.{Bool, true, false, ◌&&◌, ◌||◌, not}
+use mathlib.Core.Path.{◌≡◌, refl}
+use mathlib.Core.Bool.{Bool, true, false, ◌&&◌, not}
 use mathlib.Core.List.{List, [], ◌∷◌}
-use mathlib.Core.Option.{Option, none, some}
 use lib.Dec.{eqb}
-use lib.ListN.{length, take, drop, length-take, length-drop}
+use lib.ListN.{length, take, drop}
 use borrow.Author.Tests.{ne_eqb, not-true, not-false}
 use Rattle.text.specs.Pick.{pick, same}
 use Rattle.text.proofs.Tests.{pick_yes}
@@ -15,7 +14,7 @@ use Rattle.rules.specs.Volume.{volume_text}
 use Rattle.rules.specs.Price.{units}
 use Rattle.rules.specs.Trade.{is_normal}
 use Rattle.rules.specs.Announcement.{minimum_text, mode_text, level_text, step_text}
-use Rattle.rules.specs.Shown.{Fact, shown_letters, conditions_of, part_of, announced_if}
+use Rattle.rules.specs.Shown.{shown_letters, conditions_of, part_of, announced_if}
 use Rattle.rules.specs.declared.Letters.{Letters}
 use Rattle.rules.specs.declared.Mode.{Mode}
 use Rattle.rules.specs.declared.Mode.TheVariants.{Normal, Dvd, Rpo, Mpv}
@@ -29,7 +28,7 @@ use Rattle.call_plan.specs.declared.CancelPlan.{CancelPlan}
 use Rattle.call_plan.specs.declared.CorrectionPlan.{CorrectionPlan}
 use Rattle.call_plan.specs.declared.Plan.{Plan}
 use Rattle.call_plan.specs.declared.Plan.TheVariants.{Stop, Open, Enter, Change, Level, Step, Print, Cancel, Correct}
-use Rattle.call_print.specs.Print.{printed_name, text_of, print_of}
+use Rattle.call_print.specs.Print.{text_of, print_of}
 use Rattle.facts_entry.specs.Entry.{conditions_in, part_in, volume_in, fact_in, shows_shares, volume_of, plan_fact, SoundTrade, SoundCancel, SoundCorrection, SoundFact}
 use Rattle.facts_entry.specs.declared.Conditions.{Conditions}
 use Rattle.facts_entry.specs.declared.Part.{Part}

@@ -1,5 +1,5 @@
 -- The entry of a line as a value: the shown fact (rules, Shown) that it stands for, and the one that a plan asks for. Assumes nothing.
-use Rattle.std.specs.Prelude.{ℕ, ◌+◌, ◌≤◌, ◌<◌, Bool, true, false, ◌&&◌, ◌||◌, not, List, []}
+use Rattle.std.specs.Prelude.{ℕ, ◌+◌, ◌≤◌, ◌<◌, Bool, ◌&&◌, ◌||◌, not, List, []}
 use Rattle.std.proofs.Math.Option.{Option, none, some}
 use Rattle.text.specs.Pick.{pick, same}
 use Rattle.rules.specs.Names.{has_temporary}
@@ -23,7 +23,6 @@ use Rattle.facts_entry.specs.declared.Part.{Part}
 use Rattle.facts_entry.specs.declared.Part.TheVariants.{Full, Bare}
 use Rattle.facts_entry.specs.declared.Volume.{Volume}
 use Rattle.facts_entry.specs.declared.Volume.TheVariants.{Shown, Hidden}
-use Rattle.facts_entry.specs.declared.TradeEntry.{TradeEntry}
 use Rattle.facts_entry.specs.declared.Entry.{Entry}
 use Rattle.facts_entry.specs.declared.Entry.TheVariants.{Silent, Announced, Traded, Cancelled, Erred, Corrected}
 

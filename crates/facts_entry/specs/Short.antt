@@ -1,5 +1,5 @@
 -- A shown fact whose numbers are within the columns that they come from. Assumes nothing.
-use Rattle.std.specs.Prelude.{ℕ, ◌^◌, ◌≤◌, ◌<◌, List}
+use Rattle.std.specs.Prelude.{ℕ, ◌^◌, ◌≤◌, ◌<◌}
 use Rattle.std.proofs.Math.Option.{Option, none, some}
 use Rattle.rules.specs.Sizes.{security_places}
 use Rattle.rules.specs.Shown.{Conditions, Part, in_full, bare, Fact, announced, traded, cancelled, erred, corrected}

@@ -222,7 +222,7 @@ fn plan_entry(st: Settings, names: &Names, p: Plan) -> Entry
 // The entry of what the rules show of a call that is lent a tape of `room` bytes, by the state that it finds; an announcement's
 // text is the call's print.
 pub fn entry_of(st: Settings, table: &Table, names: &Names, line: &[u8], room: usize) -> Entry
-    ensures { (result ≡ entry_of (shown_by (day_of st table.now names.now) (record { line = line.entry.now; room = room }))) × (fact_in (tape_of (day_of st table.now names.now) (record { line = line.entry.now; room = room })) result ≡ shown_by (day_of st table.now names.now) (record { line = line.entry.now; room = room })) }
+    ensures { (result ≡ entry_of (shown_by (day_of st table.now names.now) (record { line = line.now; room = room }))) × (fact_in (tape_of (day_of st table.now names.now) (record { line = line.now; room = room })) result ≡ shown_by (day_of st table.now names.now) (record { line = line.now; room = room })) }
 {
     // as slices the tables tell their sizes
     let _rows = &table[..];

@@ -1,16 +1,15 @@
 -- The lines of an input, piece by piece. Assumes nothing.
-use Prim.Native.Nat.{ℕ, zero, suc, ◌+◌, ◌-◌, ◌≤◌, ◌<◌}
+use Prim.Native.Nat.{ℕ, suc, ◌+◌, ◌-◌, ◌≤◌, ◌<◌}
 use native.Mathlib.Omega.{arith}
-use native.Mathlib.Numerals.{add-one}
-use mathlib.Core.Path.{◌≡◌, refl, sym, ap, ◌∙◌}
+use mathlib.Core.Path.{◌≡◌, refl}
 use mathlib.Core.Bool.{Bool, true, false}
-use mathlib.Core.List.{List, [], ◌∷◌, ◌++◌, append_assoc, append-nil}
+use mathlib.Core.List.{List, [], ◌∷◌}
 use lib.Dec.{eqb}
-use lib.ListN.{length, take, drop, length-drop, length-append}
+use lib.ListN.{length, take, drop, length-drop}
 use lib.Seq.{drop-drop}
 use borrow.Author.Tests.{eqb-true, eqb-false, eq-eqb, ne_eqb}
 use Rattle.text.specs.Pick.{pick}
-use Rattle.feed_blocks.specs.Lines.{line_length, line_end, Cut, after, led, cut, last_line, lines_of}
+use Rattle.feed_blocks.specs.Lines.{line_length, line_end, after, led, cut}
 use Rattle.feed_blocks.proofs.Scan.{length_feed, length_other}
 
 pub cut_feed : (c : ℕ) (s : List ℕ) → c ≡ 10 → cut (c ∷ s) ≡ after [] (cut s)

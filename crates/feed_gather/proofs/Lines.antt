@@ -1,18 +1,16 @@
 -- One line that is told on standard output alone. Assumes nothing.
 use Prim.Native.Nat.{ℕ, ◌+◌, ◌-◌, ◌^◌, ◌≤◌, ◌<◌}
 use native.Mathlib.Omega.{arith}
-use mathlib.Core.Path.{◌≡◌, refl, sym, ap, ◌∙◌}
+use mathlib.Core.Path.{◌≡◌, ap, ◌∙◌}
 use mathlib.Core.List.{List, [], ◌++◌, append-nil}
 use lib.ListN.{length, take, drop, length-take, length-drop}
 use mir.Val.{Fits}
 use mir.Syntax.{w64}
-use Rattle.text.specs.Put.{Written}
-use Rattle.text.proofs.Writing.{then, named, length_put}
+use Rattle.text.proofs.Writing.{then, named}
 use Rattle.rules.specs.Day.{Call}
 use Rattle.rules.specs.declared.Settings.{Settings}
-use Rattle.call_plan.specs.declared.Plan.{Plan}
 use Rattle.engine.specs.Taken.{asked}
-use Rattle.feed_gather.specs.Gather.{Program, Progress, call_of, carried, line_taken, Stands, Tells, Steps}
+use Rattle.feed_gather.specs.Gather.{Program, call_of, carried, line_taken, Tells, Steps}
 use Rattle.feed_gather.specs.declared.Fed.{Fed}
 use Rattle.feed_gather.specs.declared.Told.{Told}
 use Rattle.feed_gather.proofs.Blocks.{out_length}

@@ -1,5 +1,5 @@
 -- What a program gathers of day lines: they go to the engine one after the other, and what the program tells of each is joined. One family for the programs that take a day file, over what they tell of a line (`Program`). Assumes nothing.
-use Rattle.std.specs.Prelude.{ℕ, ◌+◌, ◌-◌, ◌≤◌, ◌≡◌, Bool, true, false, ◌&&◌, List, [], ◌∷◌, ◌++◌, leb, ltb, length, drop}
+use Rattle.std.specs.Prelude.{ℕ, ◌+◌, ◌-◌, ◌≡◌, Bool, true, false, ◌&&◌, List, [], ◌∷◌, ◌++◌, leb, ltb, length, drop}
 use Rattle.text.specs.Pick.{pick}
 use Rattle.text.specs.Put.{Written}
 use Rattle.rules.specs.Day.{Call}

@@ -1,19 +1,19 @@
 -- What is held after a read, and after some of it is used. Assumes nothing.
-use Prim.Native.Nat.{ℕ, ◌+◌, ◌-◌, ◌≤◌, ◌<◌, min}
+use Prim.Native.Nat.{ℕ, ◌+◌, ◌-◌, ◌≤◌, min}
 use native.Mathlib.Omega.{arith}
 use mathlib.Core.Path.{◌≡◌, refl, sym, ap, ◌∙◌}
 use mathlib.Core.Bool.{Bool, true, false}
 use mathlib.Core.List.{List, [], ◌∷◌, ◌++◌, append-nil}
 use lib.Dec.{eqb}
 use lib.IntN.{ℤ, pos, negsuc}
-use lib.ListN.{length, take, drop, length-take, length-drop, length-append}
+use lib.ListN.{length, take, drop, length-take, length-drop}
 use lib.Seq.{take_at, take-add, drop-drop}
 use borrow.Author.Tests.{eqb-true, eqb-false}
 use Rattle.text.specs.Pick.{pick}
 use Rattle.text.specs.Put.{put}
 use Rattle.text.proofs.Booleans.{false_true}
 use Rattle.text.proofs.Writing.{length_put}
-use Rattle.feed_input.specs.Place.{Within, held_from, held, came_of, is_failure, taken_in, used_up, front_from, gone_on, block_on}
+use Rattle.feed_input.specs.Place.{Within, held_from, held, came_of, is_failure, taken_in, gone_on, block_on}
 use Rattle.feed_input.specs.Answers.{Kept, Answers}
 use Rattle.feed_input.specs.Answers.Answers.{unasked, came, fails}
 use Rattle.feed_input.specs.declared.Place.{Place}

@@ -1,20 +1,20 @@
 -- Places in a block. Assumes nothing.
 use Prim.Native.Nat.{ℕ, zero, suc, ◌+◌, ◌-◌, ◌^◌, ◌≤◌, ◌<◌, min}
 use native.Mathlib.Omega.{arith}
-use mathlib.Core.Path.{◌≡◌, refl, sym, ap, ◌∙◌}
+use mathlib.Core.Path.{◌≡◌, sym, ap, ◌∙◌}
 use mathlib.Core.Bool.{Bool, true, false, not}
 use mathlib.Core.List.{List, [], ◌∷◌, ◌++◌, append_assoc}
 use lib.Dec.{eqb}
 use lib.IntN.{ℤ, pos, negsuc}
-use lib.ListN.{length, take, drop, length-take, length-drop, length-append, take-append-drop}
-use lib.Seq.{take-nil, drop-nil, drop-append-le, length-take-le, take_at, take-add, drop-drop}
+use lib.ListN.{length, take, drop, length-take, length-drop, take-append-drop}
+use lib.Seq.{take-nil, drop-nil, drop-append-le}
 use mir.Val.{to_z, of_z, Fits, SFits}
 use mir.ValLaws.{to_z-of_z}
 use mir.Syntax.{w64}
 use borrow.Author.Tests.{not-true, not-false}
 use Rattle.text.specs.Pick.{pick}
 use Rattle.text.specs.Put.{put, Written}
-use Rattle.feed_input.specs.Place.{Within, held_from, held, came_of, is_failure, taken_in, used_up, front_from, gone_on, block_on, GoesOn}
+use Rattle.feed_input.specs.Place.{held_from, came_of, is_failure, taken_in, used_up, front_from, gone_on, block_on, GoesOn}
 use Rattle.feed_input.specs.declared.Place.{Place}
 
 -- ---- a read's answer

@@ -1,28 +1,26 @@
 -- One line, put together. Assumes nothing.
 use Prim.Native.Nat.{ℕ, ◌+◌, ◌-◌, ◌^◌, ◌≤◌, ◌<◌}
 use native.Mathlib.Omega.{arith}
-use mathlib.Core.Path.{◌≡◌, refl, sym, ap, ◌∙◌}
+use mathlib.Core.Path.{◌≡◌, refl, ap, ◌∙◌}
 use mathlib.Core.Bool.{Bool, true, false}
-use mathlib.Core.List.{List, [], ◌++◌}
+use mathlib.Core.List.{List, ◌++◌}
 use lib.Dec.{ltb}
 use lib.ListN.{length, take, drop, length-append, length-take, length-drop}
 use mir.Val.{Fits}
 use mir.Syntax.{w64}
 use borrow.Author.Tests.{ltb-false}
 use Rattle.text.specs.Pick.{pick}
-use Rattle.text.specs.Put.{put, Written}
+use Rattle.text.specs.Put.{Written}
 use Rattle.text.proofs.Writing.{then, named, length_put}
 use Rattle.rules.specs.declared.Refusal.TheVariants.{Room}
 use Rattle.rules.specs.declared.Settings.{Settings}
 use Rattle.call_plan.specs.declared.Plan.{Plan}
-use Rattle.call_plan.specs.declared.Plan.TheVariants.{Stop, Open, Enter, Change, Level, Step, Print, Cancel, Correct}
+use Rattle.call_plan.specs.declared.Plan.TheVariants.{Stop}
 use Rattle.call_plan.specs.Plan.{plan_of}
-use Rattle.engine.specs.declared.Outcome.{Outcome}
 use Rattle.engine.specs.declared.Answer.{Answer}
 use Rattle.call_print.specs.Print.{printed_name, text_of, fitted_of, print_of}
-use Rattle.engine.specs.Taken.{asked, outcome_of, Taken, count_of}
-use Rattle.call_state.specs.After.{settings_after, table_after, names_after}
-use Rattle.feed_gather.specs.Gather.{Progress, carried, line_taken, Stands, Steps}
+use Rattle.engine.specs.Taken.{asked, Taken, count_of}
+use Rattle.feed_gather.specs.Gather.{carried, line_taken, Steps}
 use Rattle.feed_lines.specs.Feed.{told, day_program}
 use Rattle.feed_gather.specs.declared.Fed.{Fed}
 

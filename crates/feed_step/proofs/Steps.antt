@@ -1,8 +1,8 @@
 -- A program's step, put together. Assumes nothing.
-use Prim.Native.Nat.{ℕ, ◌+◌, ◌-◌, ◌≤◌, ◌<◌}
+use Prim.Native.Nat.{ℕ, ◌+◌, ◌-◌, ◌≤◌}
 use native.Mathlib.Omega.{arith}
-use mathlib.Core.Path.{◌≡◌, refl, sym, ap, ◌∙◌}
-use mathlib.Core.Bool.{Bool, true, false}
+use mathlib.Core.Path.{◌≡◌, refl, ap, ◌∙◌}
+use mathlib.Core.Bool.{Bool}
 use mathlib.Core.List.{List, [], ◌∷◌}
 use lib.IntN.{ℤ}
 use lib.ListN.{length, take, drop, length-drop}
@@ -13,11 +13,10 @@ use mir.ValLaws.{to_z-of_z}
 use Rattle.rules.specs.declared.Settings.{Settings}
 use Rattle.feed_gather.specs.Gather.{Program, Progress, started, lines_taken, block_taken, Stands}
 use Rattle.feed_gather.specs.declared.Fed.{Fed}
-use Rattle.feed_gather.proofs.Blocks.{here_start}
 use Rattle.feed_gather.proofs.Within.{block_within}
 use Rattle.text.specs.Put.{Written}
 use Rattle.text.proofs.Writing.{written_nothing, length_put}
-use Rattle.feed_input.specs.Place.{Within, held, taken_in, block_on}
+use Rattle.feed_input.specs.Place.{Within, held, taken_in}
 use Rattle.feed_input.specs.declared.Place.{Place}
 use Rattle.feed_input.proofs.Held.{length_held, in_within, size_on, within_on}
 use Rattle.feed_step.specs.Step.{opening, way_of, from_by, taken_by, used_by, reads_by, is_over, Settles, place_in, way_in, progress_in, Steps}

@@ -1,5 +1,5 @@
 -- One step of a program that takes a day file, whatever it tells of a line. Assumes nothing.
-use Rattle.std.specs.Prelude.{ℕ, ◌+◌, ◌≤◌, ◌≡◌, Bool, true, false, List, [], ◌∷◌, leb, ltb, eqb, ℤ, length, drop}
+use Rattle.std.specs.Prelude.{ℕ, ◌+◌, ◌≡◌, Bool, true, false, List, [], ◌∷◌, leb, ltb, eqb, ℤ, length, drop}
 use Rattle.text.specs.Pick.{pick}
 use Rattle.text.specs.Put.{Written}
 use Rattle.rules.specs.Day.{opened}

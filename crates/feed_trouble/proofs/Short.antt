@@ -1,14 +1,12 @@
 -- The line's length. Assumes nothing.
-use Prim.Native.Nat.{ℕ, ◌^◌, ◌+◌, ◌≤◌, ◌<◌}
+use Prim.Native.Nat.{ℕ, ◌^◌, ◌≤◌, ◌<◌}
 use native.Mathlib.Omega.{arith}
-use mathlib.Core.Path.{◌≡◌, refl, sym, ap, ◌∙◌}
+use mathlib.Core.Path.{◌≡◌, sym, ap, ◌∙◌}
 use mathlib.Core.Bool.{Bool, true, false}
-use mathlib.Core.List.{List, [], ◌∷◌, ◌++◌}
+use mathlib.Core.List.{List}
 use lib.ListN.{length, take, length-append}
 use lib.Seq.{take_at}
 use Rattle.text.specs.Pick.{pick}
-use Rattle.text.specs.Bytes.{bytes}
-use Rattle.text.specs.Decimal.{decimal}
 use Rattle.text.specs.Put.{put, Written}
 use Rattle.text.proofs.Decimal.{length_decimal}
 use Rattle.feed_trouble.specs.Trouble.{what_text, trouble_text}

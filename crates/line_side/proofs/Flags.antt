@@ -1,7 +1,7 @@
 -- Tests of flags, beside those of numbers and of callees' answers. Assumes nothing.
 use Prim.Native.Nat.{ℕ, ◌≤◌, ◌<◌}
-use mathlib.Core.Path.{◌≡◌, refl, sym, ap, ◌∙◌}
-use mathlib.Core.Bool.{Bool, true, false, ◌&&◌, ◌||◌, not}
+use mathlib.Core.Path.{◌≡◌}
+use mathlib.Core.Bool.{Bool, true, false, not}
 use lib.Dec.{leb}
 use Rattle.text.proofs.Tests.{is_le, is_nle, is_eq, is_ne, and_no, and_yes, not_yes, not_no}
 use Rattle.rules.specs.declared.Number.{Number}

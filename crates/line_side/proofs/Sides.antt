@@ -1,7 +1,7 @@
 -- One reading of a side, from the answers of its fields. Assumes nothing.
 use Prim.Native.Nat.{ℕ}
-use mathlib.Core.Path.{◌≡◌, refl, sym, ap, ◌∙◌}
-use mathlib.Core.Bool.{Bool, true, false, ◌&&◌}
+use mathlib.Core.Path.{◌≡◌}
+use mathlib.Core.Bool.{Bool}
 use mathlib.Core.List.{List}
 use Rattle.rules.specs.declared.Number.{Number}
 use Rattle.rules.specs.declared.Letters.{Letters}
@@ -11,7 +11,6 @@ use Rattle.rules.specs.Conditions.{letters_formed, letters_in, lawful_letters}
 use Rattle.rules.specs.Line.{volume_in, price_in, decimals_in, letters_field, days_in, previous_in, previous_decimals_in, side_formed, side_ranged, side_of, side_matched}
 use Rattle.line_side.specs.declared.SideFields.{SideFields}
 use Rattle.line_side.specs.declared.LettersRead.{LettersRead}
-use Rattle.line_side.specs.declared.SideRead.{SideRead}
 use Rattle.line_side.specs.Side.{side_fields, letters_read, side_read}
 use Rattle.rules.specs.Line.{formed_by, ranged_by, side_by, matched_by}
 

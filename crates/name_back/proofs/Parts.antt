@@ -3,13 +3,13 @@ use Prim.Native.Nat.{ℕ}
 use mathlib.Core.Path.{◌≡◌, refl, sym, ap, ◌∙◌}
 use mathlib.Core.Bool.{Bool, true, false, ◌&&◌, ◌||◌, not}
 use mathlib.Core.List.{List, [], ◌∷◌, ◌++◌}
-use mathlib.Core.Logic.{◌⊎◌, ⊎_elim}
+use mathlib.Core.Logic.{⊎_elim}
 use lib.ListN.{length, drop}
 use lib.Dec.{eqb}
 use borrow.Author.Tests.{eqb-true, eq-eqb, ne_eqb, not-true}
 use Rattle.text.specs.Bytes.{bytes}
 use Rattle.text.specs.Pick.{pick, opt, all, same, among, member}
-use Rattle.text.specs.Reading.{found, before, starts}
+use Rattle.text.specs.Reading.{found, starts}
 use Rattle.text.proofs.Texts.{and_left, and_right, same_true}
 use Rattle.text.proofs.Parts.{all_append}
 use Rattle.text.proofs.Booleans.{and_both, false_true, or_cases}

@@ -1,20 +1,20 @@
 -- Each announcement comes back from its text, whatever follows it. Assumes nothing.
-use Prim.Native.Nat.{ℕ, ◌+◌, ◌*◌, ◌/◌, ◌%◌, ◌≤◌, ◌<◌}
+use Prim.Native.Nat.{ℕ, ◌+◌, ◌*◌, ◌/◌, ◌%◌, ◌<◌}
 use native.Mathlib.Omega.{arith}
 use mathlib.Core.Path.{◌≡◌, refl, ap, sym, ◌∙◌}
 use mathlib.Core.List.{List, [], ◌∷◌, ◌++◌, append_assoc}
 use mathlib.Core.Bool.{Bool, true, false}
-use mathlib.Core.Option.{Option, none, some}
+use mathlib.Core.Option.{some}
 use lib.Dec.{eqb}
 use borrow.Author.Tests.{eqb-true}
 use Rattle.text.specs.Bytes.{bytes}
 use Rattle.text.specs.Pick.{pick}
 use Rattle.text.specs.Decimal.{decimal, places}
-use Rattle.text.specs.Reading.{Read, found, heads, is_digit, number, starts, past}
+use Rattle.text.specs.Reading.{found, is_digit, number, starts, past}
 use Rattle.text.proofs.Reading.{number_digit, number_stop, read_decimal, past_append}
 use Rattle.rules.specs.Volume.{full_volume}
 use Rattle.rules.specs.Price.{whole_text}
-use Rattle.rules.specs.Announcement.{minimum_dollars, minimum_text, mode_text, level_text, step_text}
+use Rattle.rules.specs.Announcement.{minimum_dollars, minimum_text, mode_text, level_text}
 use Rattle.rules.specs.declared.Mode.{Mode}
 use Rattle.rules.specs.declared.Mode.TheVariants.{Normal, Dvd, Rpo, Mpv}
 use Rattle.print_volume.specs.Reading.{figures}

@@ -1,5 +1,5 @@
 -- An announcement read back from a text. Assumes nothing.
-use Rattle.std.specs.Prelude.{ℕ, ◌/◌, Bool, true, false, List}
+use Rattle.std.specs.Prelude.{ℕ, ◌/◌, List}
 use Rattle.std.proofs.Math.Option.{Option, none, some}
 use Rattle.text.specs.Bytes.{bytes}
 use Rattle.text.specs.Pick.{pick}

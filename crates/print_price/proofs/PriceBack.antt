@@ -4,18 +4,17 @@ use native.Mathlib.Nat.{pow-succ', mod-lt, div-add-mod', zero-mul, zero-add, one
 use native.Mathlib.Omega.{arith}
 use mathlib.Core.Path.{◌≡◌, refl, ap, sym, ◌∙◌}
 use mathlib.Core.List.{List, [], ◌∷◌, ◌++◌, append_assoc}
-use mathlib.Core.Bool.{Bool, true, false, ◌&&◌, ◌||◌, not}
+use mathlib.Core.Bool.{Bool, true, false}
 use lib.Pow.{pow-add}
 use lib.Dec.{eqb}
 use borrow.Author.Tests.{eqb-true, eqb-false}
-use Rattle.text.specs.Bytes.{bytes}
 use Rattle.text.specs.Pick.{pick}
 use Rattle.text.specs.Decimal.{decimal, places}
-use Rattle.text.specs.Reading.{Read, found, heads, is_digit, number}
+use Rattle.text.specs.Reading.{found, heads, is_digit, number}
 use Rattle.text.proofs.Reading.{digit_yes, number_digit, number_stop, read_decimal, places_head}
 use Rattle.rules.specs.Price.{whole_part, fraction, units, whole_text, fraction_text, short_whole, dollars_text, price_text}
 use Rattle.rules.specs.declared.Price.{Price}
-use Rattle.print_price.specs.Reading.{Fraction, fraction_at, scaled, read_fraction, read_price, shown_whole, shown_price}
+use Rattle.print_price.specs.Reading.{fraction_at, scaled, read_fraction, read_price, shown_whole, shown_price}
 use Rattle.text.specs.Reading.{dot_digit}
 use Rattle.rules.specs.declared.PriceForm.{PriceForm}
 use Rattle.rules.specs.declared.PriceForm.TheVariants.{Full, Short}

@@ -1,7 +1,7 @@
 -- Prices read back from a text. Assumes nothing.
-use Rattle.std.specs.Prelude.{ℕ, suc, zero, ◌+◌, ◌*◌, ◌-◌, ◌%◌, ◌^◌, Bool, true, false, ◌&&◌, List, [], ◌∷◌, eqb, drop}
+use Rattle.std.specs.Prelude.{ℕ, suc, ◌+◌, ◌*◌, ◌-◌, ◌%◌, ◌^◌, List, [], ◌∷◌, drop}
 use Rattle.text.specs.Pick.{pick}
-use Rattle.text.specs.Reading.{Read, found, heads, is_digit, number, dot_digit}
+use Rattle.text.specs.Reading.{Read, found, is_digit, number, dot_digit}
 use Rattle.rules.specs.Price.{whole_part, fraction}
 use Rattle.rules.specs.declared.Price.{Price}
 use Rattle.rules.specs.declared.PriceForm.{PriceForm}

@@ -1,5 +1,5 @@
 -- A price within its values. Assumes nothing.
-use Rattle.std.specs.Prelude.{ℕ, ◌+◌, ◌^◌, ◌≤◌, ◌<◌}
+use Rattle.std.specs.Prelude.{◌+◌, ◌^◌, ◌≤◌, ◌<◌}
 use Rattle.rules.specs.declared.Price.{Price}
 
 -- d 0..8, n below ten to the power 6 + d (document 01, "Day lines")

@@ -1,7 +1,7 @@
 -- Laws of a side's columns: what its volume and its price are written from, and that a blank where letters begin is no letter. Assumes nothing.
 use Prim.Native.Nat.{ℕ, ◌<◌}
 use native.Mathlib.Omega.{arith}
-use mathlib.Core.Path.{◌≡◌, refl, sym, ap, ◌∙◌}
+use mathlib.Core.Path.{◌≡◌, ap, ◌∙◌}
 use mathlib.Core.Bool.{Bool, true, false, not}
 use mathlib.Core.List.{List, [], ◌∷◌, append-nil}
 use lib.Dec.{eqb}
@@ -13,7 +13,6 @@ use Rattle.text.specs.Put.{Written}
 use Rattle.text.proofs.Writing.{written_nothing}
 use Rattle.rules.specs.Columns.{number_in}
 use Rattle.rules.specs.Conditions.{letters_in, after_name, after_price, at_end}
-use Rattle.rules.specs.Line.{letters_field}
 use Rattle.rules.specs.Side.{head_text, tail_text}
 use Rattle.rules.specs.declared.Letters.{Letters}
 use Rattle.rules.specs.declared.Side.{Side}

@@ -1,17 +1,15 @@
 -- No side is longer than its name and 161 bytes. Assumes nothing.
-use Prim.Native.Nat.{ℕ, zero, suc, ◌+◌, ◌-◌, ◌*◌, ◌/◌, ◌%◌, ◌^◌, ◌≤◌, ◌<◌}
+use Prim.Native.Nat.{ℕ, ◌+◌, ◌/◌, ◌^◌, ◌≤◌, ◌<◌}
 use native.Mathlib.Omega.{arith}
 use native.Mathlib.Nat.{div-le_self}
-use mathlib.Core.Path.{◌≡◌, refl, sym, ap, ◌∙◌}
-use mathlib.Core.Bool.{Bool, true, false, ◌&&◌, ◌||◌, not}
-use mathlib.Core.List.{List, [], ◌∷◌, ◌++◌}
-use lib.Dec.{eqb, ltb}
+use mathlib.Core.Bool.{Bool, true, false}
+use mathlib.Core.List.{List, [], ◌++◌}
 use lib.ListN.{length, length-append}
 use Rattle.text.specs.Bytes.{bytes}
 use Rattle.text.specs.Pick.{pick, opt}
 use Rattle.text.specs.Decimal.{decimal, places}
 use Rattle.text.proofs.Decimal.{length_decimal, length_places}
-use Rattle.rules.specs.Volume.{group, full_volume, is_round, in_shares, in_hundreds, in_tens, volume_text}
+use Rattle.rules.specs.Volume.{group, full_volume, in_shares, in_hundreds, in_tens, volume_text}
 use Rattle.rules.specs.Price.{whole_part, fraction, whole_text, fraction_text, short_whole, dollars_text, price_text}
 use Rattle.rules.specs.Conditions.{after_name, after_price, seller_text, previous_text, at_end}
 use Rattle.rules.specs.Side.{head_text, tail_text, side_text}

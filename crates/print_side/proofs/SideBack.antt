@@ -1,19 +1,18 @@
 -- A whole side comes back from its text: head, volume, price and tail. Assumes nothing.
 use Prim.Native.Nat.{ℕ, suc, zero, ◌+◌, ◌*◌, ◌-◌, ◌/◌, ◌%◌, ◌^◌, ◌≤◌, ◌<◌}
-use native.Mathlib.Nat.{mod-lt, one-le-pow, div-add-mod', zero-mul, zero-add}
+use native.Mathlib.Nat.{mod-lt, one-le-pow, div-add-mod', zero-mul}
 use native.Mathlib.Omega.{arith}
 use mathlib.Core.Path.{◌≡◌, refl, ap, sym, ◌∙◌}
 use mathlib.Core.List.{List, [], ◌∷◌, ◌++◌, append_assoc}
-use mathlib.Core.Bool.{Bool, true, false, ◌&&◌, ◌||◌, not}
-use mathlib.Core.Option.{Option, none, some}
-use lib.Dec.{leb, ltb, eqb}
+use mathlib.Core.Bool.{Bool, true, false}
+use mathlib.Core.Option.{none}
+use lib.Dec.{ltb, eqb}
 use borrow.Author.Tests.{eqb-true, eqb-false, lt-leb, ne_eqb}
-use Rattle.text.specs.Bytes.{bytes}
 use Rattle.text.specs.Pick.{pick, opt, all, among}
 use Rattle.text.specs.Decimal.{decimal, places}
-use Rattle.text.specs.Reading.{Read, found, heads, is_digit, span, starts}
+use Rattle.text.specs.Reading.{found, heads, is_digit, span}
 use Rattle.text.proofs.Decimal.{decimal_small, decimal_big, ten_ind}
-use Rattle.text.proofs.Reading.{digit_yes, decimal_head, span_all}
+use Rattle.text.proofs.Reading.{span_all}
 use Rattle.rules.specs.Tape.{is_letter, is_upper}
 use Rattle.rules.specs.Volume.{group, full_volume, volume_text}
 use Rattle.rules.specs.Price.{whole_part, fraction, whole_text, fraction_text, short_whole, dollars_text, price_text}
@@ -22,12 +21,10 @@ use Rattle.rules.specs.declared.Price.{Price}
 use Rattle.rules.specs.declared.Side.{Side}
 use Rattle.line_owed.specs.Owed.{OwedSide}
 use Rattle.print_volume.specs.Reading.{Figure, digit, dot, stop, figure, figures, mark_at, mark_text, Shown, unsaid, said, shown_of, shown_text, read_volume}
-use Rattle.print_price.specs.Reading.{read_price, shown_price}
 use Rattle.text.specs.Reading.{dot_digit}
-use Rattle.print_volume.proofs.VolumeBack.{figures_digit, figures_dot, figures_stop, volume_back, volume_shown, shown_back, shown_within, Within, unsaid_within}
+use Rattle.print_volume.proofs.VolumeBack.{figures_digit, figures_dot, figures_stop, volume_shown, shown_back, shown_within, Within, unsaid_within}
 use Rattle.print_price.proofs.PriceBack.{NoMore, price_back, places_dot}
-use Rattle.print_conditions.specs.Reading.{read_tail}
-use Rattle.print_side.specs.Reading.{SideRead, read_side, side_shown}
+use Rattle.print_side.specs.Reading.{read_side, side_shown}
 use Rattle.print_conditions.proofs.TailBack.{Ends, tail_back, tail_digit, tail_dot, tail_mark}
 use Rattle.rules.specs.declared.PriceForm.{PriceForm}
 use Rattle.rules.specs.declared.PriceForm.TheVariants.{Full, Short}

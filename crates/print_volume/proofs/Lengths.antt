@@ -1,11 +1,9 @@
 -- Laws of volume texts, in the form of the code's needs. Assumes nothing.
-use Prim.Native.Nat.{ℕ, suc, ◌+◌, ◌/◌}
+use Prim.Native.Nat.{ℕ, suc, ◌+◌}
 use native.Mathlib.Omega.{arith}
-use mathlib.Core.Path.{◌≡◌, refl, sym, ap}
+use mathlib.Core.Path.{◌≡◌, sym, ap}
 use mathlib.Core.List.{List, ◌++◌}
 use lib.ListN.{length, length-append}
-use Rattle.text.specs.Bytes.{bytes}
-use Rattle.text.specs.Decimal.{decimal, places}
 use Rattle.text.proofs.Decimal.{length_places}
 use Rattle.rules.specs.Volume.{group}
 

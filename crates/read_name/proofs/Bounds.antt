@@ -1,7 +1,7 @@
 -- Laws for callers: the numbers of an answer are within the text. Assumes nothing.
-use Prim.Native.Nat.{ℕ, zero, suc, ◌+◌, ◌-◌, ◌≤◌, ◌<◌}
+use Prim.Native.Nat.{ℕ, suc, ◌-◌, ◌≤◌}
 use native.Mathlib.Omega.{arith}
-use mathlib.Core.Path.{◌≡◌, refl, sym, ap, ◌∙◌}
+use mathlib.Core.Path.{◌≡◌, refl, sym, ◌∙◌}
 use mathlib.Core.Bool.{Bool, true, false, ◌&&◌, ◌||◌, not}
 use mathlib.Core.List.{List, [], ◌∷◌}
 use mathlib.Core.Logic.{⊎_elim}
@@ -16,8 +16,7 @@ use Rattle.text.proofs.Texts.{and_left, and_right}
 use Rattle.rules.specs.Tape.{is_letter, is_upper, is_raised}
 use Rattle.rules.specs.Columns.{between}
 use Rattle.rules.specs.Names.{is_suffix, is_reserved, listed_suffixes}
-use Rattle.rules.specs.declared.Letters.{Letters}
-use Rattle.text.proofs.Booleans.{false_true, or_cases}
+use Rattle.text.proofs.Booleans.{or_cases}
 use Rattle.name_back.proofs.Parts.{each, member_each, class_ends, suffix_case}
 use Rattle.read_name.specs.Name.{count_of, ends_in, suffix_text, with_end, plain_end, ends_lawfully, lawful_root, appendage_of, name_on}
 use Rattle.read_name.specs.Head.{after_in, name_count, named_by, in_run, head_at, again_by, again_in, again_at}

@@ -1,20 +1,20 @@
 -- A price comes back from its text, whatever follows it. Assumes nothing.
 use Prim.Native.Nat.{ℕ, zero, suc, ◌+◌, ◌-◌, ◌*◌, ◌/◌, ◌%◌, ◌^◌, ◌≤◌, ◌<◌}
-use native.Mathlib.Nat.{pow-succ', pow-suc, one-le-pow, mod-lt, div-add-mod', zero-mul, zero-add, add-zero, div-one, mul_assoc, add-sub_of_le, div-lt_iff_lt-mul}
+use native.Mathlib.Nat.{pow-succ', pow-suc, one-le-pow, mod-lt, div-add-mod', zero-mul, add-zero, mul_assoc, add-sub_of_le, div-lt_iff_lt-mul}
 use native.Mathlib.Omega.{arith}
 use mathlib.Core.Path.{◌≡◌, refl, sym, ap, ◌∙◌}
-use mathlib.Core.Bool.{Bool, true, false, ◌&&◌, ◌||◌, not}
+use mathlib.Core.Bool.{Bool, true, false, ◌&&◌}
 use mathlib.Core.List.{List, [], ◌∷◌, ◌++◌, append_assoc, append-nil}
-use lib.ListN.{length, take, drop, length-append}
-use lib.Seq.{take-append_seam, drop-append_seam, drop_at}
+use lib.ListN.{length, drop, length-append}
+use lib.Seq.{drop-append_seam}
 use lib.Pow.{pow-add}
-use lib.Dec.{leb, ltb, eqb}
-use borrow.Author.Tests.{eqb-true, eqb-false, ltb-true, ltb-false, lt-ltb, le-ltb, le-leb, lt-leb, eq-eqb, ne_eqb}
+use lib.Dec.{eqb}
+use borrow.Author.Tests.{eqb-true, eqb-false, eq-eqb, ne_eqb}
 use Rattle.text.specs.Bytes.{bytes}
-use Rattle.text.specs.Pick.{pick, same}
+use Rattle.text.specs.Pick.{pick}
 use Rattle.text.specs.Decimal.{places, decimal}
 use Rattle.text.specs.Reading.{heads, is_digit, dot_digit}
-use Rattle.text.proofs.Reading.{digit_yes, places_head, decimal_head}
+use Rattle.text.proofs.Reading.{digit_yes}
 use Rattle.text.proofs.Decimal.{length_places, decimal_places, decimal_small, decimal_big, length_small, length_big, length_decimal, ten_ind}
 use Rattle.rules.specs.Price.{whole_part, fraction, units, whole_text, fraction_text, dollars_text, price_text}
 use Rattle.rules.specs.declared.Price.{Price}
@@ -22,11 +22,10 @@ use Rattle.print_price.specs.Sound.{Sound}
 use Rattle.print_price.proofs.PriceBack.{NoMore}
 use Rattle.read_price.specs.declared.Digits.{Digits}
 use Rattle.read_price.specs.declared.PriceRead.{PriceRead}
-use Rattle.read_price.specs.declared.PriceAnswer.{PriceAnswer}
-use Rattle.read_price.specs.declared.PriceAnswer.TheVariants.{Priced, NoPrice}
+use Rattle.read_price.specs.declared.PriceAnswer.TheVariants.{Priced}
 use Rattle.read_price.specs.Digits.{digits_onto, digits_at, zero_first}
 use Rattle.read_price.specs.Price.{fraction_at, priced_by, price_at}
-use Rattle.read_price.proofs.Bounds.{Counted, digits_counted}
+use Rattle.read_price.proofs.Bounds.{digits_counted}
 use Rattle.read_price.proofs.Text.{keeps_some}
 use Rattle.rules.specs.declared.PriceForm.TheVariants.{Full}
 

@@ -3,29 +3,25 @@ use Prim.Native.Nat.{ℕ, zero, suc, ◌+◌, ◌-◌, ◌*◌, ◌/◌, ◌%◌
 use native.Mathlib.Nat.{sub_self, mul-add-div_right, mul-add-mod_self_right, div-eq_of_lt, mod-eq_of_lt, mul-le-mul_right, one-le-pow, add-mul, one-mul, add-zero, div-one}
 use native.Mathlib.Omega.{arith}
 use mathlib.Core.Path.{◌≡◌, refl, sym, ap, ◌∙◌}
-use mathlib.Core.Bool.{Bool, true, false, ◌&&◌, ◌||◌, not}
+use mathlib.Core.Bool.{Bool, true, false}
 use mathlib.Core.List.{List, [], ◌∷◌, ◌++◌, append-nil}
 use lib.ListN.{length, take, drop, length-drop}
 use lib.Seq.{append_snoc, take-add}
 use lib.Pow.{pow-add}
-use lib.Dec.{leb, ltb, eqb}
-use borrow.Author.Tests.{eqb-true, eqb-false, ltb-true, leb-true, lt-ltb, le-ltb, le-leb, lt-leb, eq-eqb, ne_eqb, not-true, not-false}
-use Rattle.text.specs.Bytes.{bytes}
-use Rattle.text.specs.Pick.{pick, same}
+use lib.Dec.{eqb}
+use borrow.Author.Tests.{eqb-true, eqb-false, ne_eqb}
+use Rattle.text.specs.Pick.{pick}
 use Rattle.text.specs.Decimal.{places, decimal}
-use Rattle.text.specs.Reading.{heads, is_digit, starts}
-use Rattle.text.proofs.Texts.{and_left, and_right, same_true}
+use Rattle.text.specs.Reading.{heads, is_digit}
 use Rattle.text.proofs.Decimal.{decimal_small, decimal_big}
 use Rattle.rules.specs.Price.{whole_part, fraction, whole_text, fraction_text, dollars_text, price_text}
-use Rattle.rules.specs.declared.Price.{Price}
 use Rattle.print_price.specs.Sound.{Sound}
 use Rattle.read_price.specs.declared.Digits.{Digits}
 use Rattle.read_price.specs.declared.PriceRead.{PriceRead}
-use Rattle.read_price.specs.declared.PriceAnswer.{PriceAnswer}
 use Rattle.read_price.specs.declared.PriceAnswer.TheVariants.{Priced, NoPrice}
 use Rattle.read_price.specs.Digits.{digits_onto, digits_at, zero_first}
 use Rattle.read_price.specs.Price.{fraction_at, priced_by, price_at}
-use Rattle.read_price.proofs.Bounds.{digit_from, digit_to, Counted, digits_counted, digit_small, digits_count, digits_within, digits_small, digits_below, Fractioned, fraction_found}
+use Rattle.read_price.proofs.Bounds.{digit_from, digit_to, Counted, digits_counted, digit_small, digits_within, digits_small, digits_below, Fractioned, fraction_found}
 use Rattle.rules.specs.declared.PriceForm.TheVariants.{Full}
 
 -- ---- digits

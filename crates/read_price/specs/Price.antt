@@ -1,6 +1,6 @@
 -- A full price at the front of a tape (document 01, "Price and conditions"): at most six digits of the whole part, none where it is 0;
 -- then, unless the fraction is zero, a figure dot and at most eight digits. Assumes nothing.
-use Rattle.std.specs.Prelude.{ℕ, ◌+◌, ◌*◌, ◌^◌, Bool, List, eqb, drop}
+use Rattle.std.specs.Prelude.{ℕ, ◌+◌, ◌*◌, ◌^◌, List, eqb, drop}
 use Rattle.text.specs.Pick.{pick}
 use Rattle.text.specs.Reading.{heads}
 use Rattle.read_price.specs.declared.Digits.{Digits}

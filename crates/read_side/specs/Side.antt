@@ -1,10 +1,8 @@
 -- A side of a normal print behind its head (document 01, "Reader"): volume, price, conditions; one reader for T, C, X and E. Assumes nothing.
-use Rattle.std.specs.Prelude.{ℕ, ◌+◌, Bool, true, false, ◌&&◌, ◌||◌, not, List, drop}
+use Rattle.std.specs.Prelude.{ℕ, ◌+◌, Bool, ◌&&◌, ◌||◌, List, drop}
 use Rattle.text.specs.Pick.{pick}
 use Rattle.rules.specs.declared.Letters.{Letters}
-use Rattle.rules.specs.declared.Price.{Price}
 use Rattle.rules.specs.declared.Refusal.TheVariants.{NoPrint}
-use Rattle.rules.specs.declared.Side.{Side}
 use Rattle.read_price.specs.declared.PriceAnswer.{PriceAnswer}
 use Rattle.read_price.specs.declared.PriceAnswer.TheVariants.{Priced, NoPrice}
 use Rattle.read_volume.specs.declared.Volume.{Volume}
@@ -13,7 +11,6 @@ use Rattle.read_volume.specs.declared.VolumeAnswer.{VolumeAnswer}
 use Rattle.read_volume.specs.declared.VolumeAnswer.TheVariants.{Said, NoVolume}
 use Rattle.read_price.specs.Price.{price_at}
 use Rattle.read_volume.specs.Volume.{volume_at, shares_in, explained}
-use Rattle.read_conditions.specs.declared.Taken.{Taken}
 use Rattle.read_conditions.specs.Tail.{tail_at}
 use Rattle.read_side.specs.declared.Beside.{Beside}
 use Rattle.read_side.specs.declared.Beside.TheVariants.{Alone, With}

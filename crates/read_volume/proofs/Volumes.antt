@@ -19,7 +19,7 @@ use Rattle.text.proofs.Texts.{and_left}
 use Rattle.text.proofs.Decimal.{length_decimal}
 use Rattle.text.proofs.Booleans.{or_left, or_right}
 use Rattle.rules.specs.Volume.{group, full_volume}
-use Rattle.print_volume.specs.Reading.{digit, dot, figure}
+use Rattle.print_volume.specs.Reading.{figure}
 use Rattle.print_volume.proofs.Lengths.{group_length}
 use Rattle.read_price.specs.declared.Digits.{Digits}
 use Rattle.read_volume.specs.declared.Volume.{Volume}

@@ -1,11 +1,11 @@
 -- A volume at the front of a tape (document 01, "Volume"), and the networks and units under which a volume prints so. Assumes nothing.
-use Rattle.std.specs.Prelude.{ℕ, suc, zero, ◌+◌, ◌*◌, ◌-◌, ◌%◌, Bool, true, false, ◌&&◌, ◌||◌, not, List, [], ◌∷◌, ◌++◌, eqb, leb, ltb, take, drop}
+use Rattle.std.specs.Prelude.{ℕ, suc, zero, ◌+◌, ◌*◌, ◌-◌, ◌%◌, Bool, false, ◌&&◌, ◌||◌, not, List, [], ◌∷◌, ◌++◌, eqb, leb, ltb, take, drop}
 use Rattle.text.specs.Bytes.{bytes}
 use Rattle.text.specs.Pick.{pick, same}
 use Rattle.text.specs.Reading.{heads, is_digit, starts}
 use Rattle.rules.specs.Columns.{between}
 use Rattle.rules.specs.Volume.{full_volume, is_round}
-use Rattle.print_volume.specs.Reading.{Figure, digit, dot, stop, figure}
+use Rattle.print_volume.specs.Reading.{digit, dot, stop, figure}
 use Rattle.read_price.specs.declared.Digits.{Digits}
 use Rattle.read_volume.specs.declared.Volume.{Volume}
 use Rattle.read_volume.specs.declared.Volume.TheVariants.{Unsaid, Hundreds, Tens, Shares}

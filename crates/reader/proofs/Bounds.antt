@@ -1,8 +1,8 @@
 -- Laws for callers: a print and its name are within the text; past the end of a tape there is no print. Assumes nothing.
 use Prim.Native.Nat.{ℕ, ◌+◌, ◌-◌, ◌^◌, ◌≤◌, ◌<◌}
 use native.Mathlib.Omega.{arith}
-use mathlib.Core.Path.{◌≡◌, refl, sym, ap, ◌∙◌}
-use mathlib.Core.Bool.{Bool, true, false, ◌&&◌, ◌||◌, not}
+use mathlib.Core.Path.{◌≡◌, refl, sym, ap}
+use mathlib.Core.Bool.{Bool, true, false}
 use mathlib.Core.List.{List, []}
 use lib.ListN.{length, take, drop, length-drop, drop_of_length-le}
 use lib.Seq.{drop-drop}
@@ -13,7 +13,6 @@ use Rattle.text.specs.Reading.{starts}
 use Rattle.rules.specs.Columns.{between}
 use Rattle.rules.specs.Correction.{repeats_name}
 use Rattle.rules.specs.Line.{alike}
-use Rattle.rules.specs.declared.Refusal.{Refusal}
 use Rattle.rules.specs.declared.Refusal.TheVariants.{NoPrint}
 use Rattle.rules.specs.declared.Side.{Side}
 use Rattle.read_announcement.specs.Announced.{announced_length}
@@ -21,23 +20,21 @@ use Rattle.read_announcement.proofs.Sound.{announced_within}
 use Rattle.read_name.specs.declared.NameRead.{NameRead}
 use Rattle.read_name.specs.declared.NameAnswer.{NameAnswer}
 use Rattle.read_name.specs.declared.NameAnswer.TheVariants.{Named, NoName}
-use Rattle.read_name.specs.declared.AgainRead.{AgainRead}
 use Rattle.read_name.specs.declared.AgainAnswer.{AgainAnswer}
 use Rattle.read_name.specs.declared.AgainAnswer.TheVariants.{Again, NotAgain}
 use Rattle.read_name.specs.Name.{count_of, lawful_root, name_on}
 use Rattle.read_name.specs.Head.{sold_in, after_in, name_count, named_by, in_run, head_at, again_at}
 use Rattle.read_name.proofs.Bounds.{head_used, head_length}
-use Rattle.read_side.specs.declared.Beside.{Beside}
 use Rattle.read_side.specs.declared.Beside.TheVariants.{Alone, With}
 use Rattle.read_side.specs.declared.SideRead.{SideRead}
 use Rattle.read_side.specs.declared.SideAnswer.{SideAnswer}
 use Rattle.read_side.specs.declared.SideAnswer.TheVariants.{Sided, Refused as Unsided}
 use Rattle.read_side.specs.Side.{side_at}
 use Rattle.reader.specs.declared.ReadAnswer.{ReadAnswer}
-use Rattle.reader.specs.declared.ReadAnswer.TheVariants.{Announcement, Trade, Cancel, Error, Correction, Refused}
+use Rattle.reader.specs.declared.ReadAnswer.TheVariants.{Announcement, Correction, Refused}
 use Rattle.reader.specs.Read.{trade_side, trade_head, trade_at, end_at, ended_by, cancel_side, cancel_head, cancel_at, amended, corrected_by, second_side, second_head, second_at, correction_side, correction_head, correction_at, announced_by, print_at, read_at}
 use Rattle.reader.specs.Told.{length_of, name_from, name_length, name_in, name_at}
-use Rattle.reader.proofs.Rooms.{head_room, name_room, trade_room, both_room, again_room, second_room, end_room, was_room, correction_room, cancel_room, error_room}
+use Rattle.reader.proofs.Rooms.{name_room, trade_room, both_room, second_room, end_room, was_room, correction_room, cancel_room, error_room}
 
 -- ---- a print and its name within the text
 

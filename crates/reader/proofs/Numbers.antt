@@ -25,7 +25,7 @@ use Rattle.read_side.specs.declared.SideRead.{SideRead}
 use Rattle.read_side.specs.declared.SideAnswer.{SideAnswer}
 use Rattle.read_side.specs.declared.SideAnswer.TheVariants.{Sided, Refused as Unsided}
 use Rattle.reader.specs.declared.ReadAnswer.{ReadAnswer}
-use Rattle.reader.specs.declared.ReadAnswer.TheVariants.{Announcement, Trade, Cancel, Error, Correction, Refused}
+use Rattle.reader.specs.declared.ReadAnswer.TheVariants.{Announcement, Correction, Refused}
 use Rattle.reader.specs.declared.PrintRead.{PrintRead}
 use Rattle.reader.specs.Read.{trade_side, trade_head, trade_at, amended, ended_by, cancel_side, cancel_head, cancel_at, corrected_by, second_side, second_head, second_at, correction_side, correction_head, correction_at, announced_by, print_at, read_at}
 use Rattle.reader.specs.Told.{answer_number, length_of, name_in, name_at, fact_in, ReadIs}

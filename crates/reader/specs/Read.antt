@@ -1,11 +1,10 @@
 -- The longest normal print at the front of a text (document 01, "Reader"), computed. Assumes nothing.
-use Rattle.std.specs.Prelude.{ℕ, ◌+◌, Bool, true, false, ◌&&◌, ◌||◌, not, List, leb, eqb, take, drop}
+use Rattle.std.specs.Prelude.{ℕ, ◌+◌, Bool, true, false, List, leb, eqb, take, drop}
 use Rattle.text.specs.Bytes.{bytes}
 use Rattle.text.specs.Pick.{pick}
 use Rattle.text.specs.Reading.{starts}
 use Rattle.rules.specs.Correction.{repeats_name}
 use Rattle.rules.specs.Line.{alike}
-use Rattle.rules.specs.declared.Refusal.{Refusal}
 use Rattle.rules.specs.declared.Refusal.TheVariants.{NoPrint}
 use Rattle.rules.specs.declared.Side.{Side}
 use Rattle.read_announcement.specs.Announced.{announced_length}
@@ -15,8 +14,6 @@ use Rattle.read_name.specs.declared.NameAnswer.TheVariants.{Named, NoName}
 use Rattle.read_name.specs.declared.AgainAnswer.{AgainAnswer}
 use Rattle.read_name.specs.declared.AgainAnswer.TheVariants.{Again, NotAgain}
 use Rattle.read_name.specs.Head.{head_at, again_at}
-use Rattle.read_conditions.specs.declared.Taken.{Taken}
-use Rattle.read_side.specs.declared.Beside.{Beside}
 use Rattle.read_side.specs.declared.Beside.TheVariants.{Alone, With}
 use Rattle.read_side.specs.declared.SideRead.{SideRead}
 use Rattle.read_side.specs.declared.SideAnswer.{SideAnswer}

@@ -1,5 +1,5 @@
 -- What an answer of the reader tells (document 01, "Reader"): length, undivided name, facts. Assumes nothing.
-use Rattle.std.specs.Prelude.{ℕ, ◌-◌, ◌≡◌, List, [], leb, take, drop}
+use Rattle.std.specs.Prelude.{ℕ, ◌-◌, ◌≡◌, List, leb, take, drop}
 use Rattle.std.proofs.Math.Option.{Option, none, some}
 use Rattle.text.specs.Pick.{pick}
 use Rattle.rules.specs.Price.{units}

@@ -4,7 +4,6 @@ use mathlib.Core.Path.{◌≡◌}
 use mathlib.Core.Bool.{true}
 use mathlib.Core.List.{List}
 use lib.Dec.{eqb}
-use Rattle.text.specs.Pick.{pick}
 use Rattle.text.proofs.Booleans.{pick_cases}
 use Rattle.rules.specs.declared.Parsed.{Parsed}
 use Rattle.rules.specs.Line.{as_date, as_listing, as_mode, as_level, as_step, as_trade, as_cancel, as_error, as_correction, of_kind}

@@ -1,7 +1,7 @@
 -- Document 01, "Day lines": what stands in a line's columns. Assumes nothing.
-use Rattle.std.specs.Prelude.{ℕ, zero, suc, ◌+◌, ◌-◌, ◌*◌, ◌/◌, ◌%◌, Bool, true, false, ◌&&◌, ◌||◌, not, List, [], ◌∷◌, leb, ltb, eqb, take, drop, get_or}
-use Rattle.text.specs.Pick.{pick, all, among}
-use Rattle.text.specs.Reading.{Read, span, is_digit}
+use Rattle.std.specs.Prelude.{ℕ, ◌+◌, ◌-◌, ◌*◌, ◌/◌, ◌%◌, Bool, true, false, ◌&&◌, ◌||◌, not, List, [], ◌∷◌, leb, eqb, take, drop, get_or}
+use Rattle.text.specs.Pick.{pick, all}
+use Rattle.text.specs.Reading.{span, is_digit}
 use Rattle.rules.specs.Tape.{is_letter}
 use Rattle.rules.specs.declared.Number.{Number}
 use Rattle.rules.specs.declared.Number.TheVariants.{Blank, Bad, Is}

@@ -1,7 +1,7 @@
 -- Document 01, "Corrections and cancels" (001, sections 5, 6). Assumes nothing.
-use Rattle.std.specs.Prelude.{ℕ, Bool, true, false, ◌&&◌, ◌||◌, not, List, [], ◌++◌, leb, eqb}
+use Rattle.std.specs.Prelude.{ℕ, Bool, true, false, ◌&&◌, ◌||◌, not, List, ◌++◌, leb, eqb}
 use Rattle.text.specs.Bytes.{bytes}
-use Rattle.text.specs.Pick.{pick, opt}
+use Rattle.text.specs.Pick.{opt}
 use Rattle.rules.specs.Price.{whole_part, units, form_by}
 use Rattle.rules.specs.Conditions.{has_rule}
 use Rattle.rules.specs.Qualifying.{for_last}

@@ -1,10 +1,10 @@
 -- Document 01, "Day lines", "Trades by mode", "Lines not taken": a day's state, the refusals in order, the print of each line and what each accepted line does to the state. Assumes nothing.
-use Rattle.std.specs.Prelude.{ℕ, ◌-◌, Bool, true, false, ◌&&◌, ◌||◌, not, List, [], ◌∷◌, ◌++◌, leb, ltb, eqb, length, get_or, set, replicate}
+use Rattle.std.specs.Prelude.{ℕ, ◌-◌, Bool, false, ◌&&◌, ◌||◌, not, List, [], ◌∷◌, leb, ltb, eqb, length, get_or, set, replicate}
 use Rattle.std.proofs.Math.Option.{Option, none, some}
-use Rattle.text.specs.Pick.{pick, opt}
+use Rattle.text.specs.Pick.{opt}
 use Rattle.rules.specs.Sizes.{security_places, longest_print}
 use Rattle.rules.specs.Columns.{column}
-use Rattle.rules.specs.Names.{name_text, same_name, has_temporary}
+use Rattle.rules.specs.Names.{name_text, same_name}
 use Rattle.rules.specs.Conditions.{on_network}
 use Rattle.rules.specs.Side.{side_text}
 use Rattle.rules.specs.Trade.{prints_trade, trade_form, trade_shows, after_trade}
@@ -12,16 +12,14 @@ use Rattle.rules.specs.Announcement.{mode_text, level_text, step_text}
 use Rattle.rules.specs.Correction.{correction_text, cancel_text, cancel_opening, error_opening, prints_correction, correction_form, correction_shows, cancel_form, cancel_shows, after_correction}
 use Rattle.rules.specs.Line.{is_shaped, is_kind, is_formed, is_ranged, line_of, name_columns}
 use Rattle.rules.specs.Refusal.{refuse}
-use Rattle.rules.specs.declared.Mode.{Mode}
-use Rattle.rules.specs.declared.Mode.TheVariants.{Normal, Dvd, Rpo, Mpv}
-use Rattle.rules.specs.declared.Side.{Side}
+use Rattle.rules.specs.declared.Mode.TheVariants.{Normal}
 use Rattle.rules.specs.declared.Listing.{Listing}
 use Rattle.rules.specs.declared.Trade.{Trade}
 use Rattle.rules.specs.declared.Correction.{Correction}
 use Rattle.rules.specs.declared.Line.{Line}
 use Rattle.rules.specs.declared.Line.TheVariants.{Dated, Listed, Moded, Leveled, Stepped, Traded, Cancelled, Erred, Corrected}
 use Rattle.rules.specs.declared.Refusal.{Refusal}
-use Rattle.rules.specs.declared.Refusal.TheVariants.{Shape, Kind, NoDate, Form, Value, NotEntered, InUse, Name, SameName, Conditions, Unmatched, DateOrder, Room, NoPrint}
+use Rattle.rules.specs.declared.Refusal.TheVariants.{Shape, Kind, NoDate, Form, Value, NotEntered, InUse, Name, SameName, Conditions, Unmatched, DateOrder, Room}
 use Rattle.rules.specs.declared.Settings.{Settings}
 use Rattle.rules.specs.declared.Issue.{Issue}
 use Rattle.rules.specs.declared.Printed.{Printed}

@@ -1,5 +1,5 @@
 -- Document 01, "Day lines": the nine kinds of line with their columns; what refusals 1, 2, 4, 5, 8, 10 and 11 ask of a line by itself. Assumes nothing.
-use Rattle.std.specs.Prelude.{ℕ, ◌+◌, ◌^◌, Bool, true, false, ◌&&◌, ◌||◌, not, List, [], ◌∷◌, leb, ltb, eqb, length}
+use Rattle.std.specs.Prelude.{ℕ, ◌+◌, ◌^◌, Bool, true, ◌&&◌, not, List, [], ◌∷◌, leb, ltb, eqb, length}
 use Rattle.text.specs.Bytes.{bytes}
 use Rattle.text.specs.Pick.{pick, all, among}
 use Rattle.rules.specs.Sizes.{width, security_places}
@@ -10,7 +10,6 @@ use Rattle.rules.specs.declared.Number.{Number}
 use Rattle.rules.specs.declared.Number.TheVariants.{Blank, Bad, Is}
 use Rattle.rules.specs.declared.Mode.{Mode}
 use Rattle.rules.specs.declared.Mode.TheVariants.{Normal, Dvd, Rpo, Mpv}
-use Rattle.rules.specs.declared.Price.{Price}
 use Rattle.rules.specs.declared.Letters.{Letters}
 use Rattle.rules.specs.declared.Side.{Side}
 use Rattle.rules.specs.declared.Listing.{Listing}

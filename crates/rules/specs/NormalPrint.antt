@@ -1,13 +1,12 @@
 -- Document 01, "Reader": what the reader must find. Assumes nothing.
-use Rattle.std.specs.Prelude.{ℕ, ◌≤◌, ◌≡◌, Bool, true, false, List, [], ◌∷◌, length}
+use Rattle.std.specs.Prelude.{ℕ, ◌≤◌, ◌≡◌, true, false, List, [], length}
 use Rattle.std.proofs.Math.Option.{Option, none, some}
 use Rattle.rules.specs.Columns.{column, between}
 use Rattle.rules.specs.Names.{name_text}
 use Rattle.rules.specs.Line.{line_of, name_columns}
 use Rattle.rules.specs.Day.{Day, cleared, with_settings, name_at, security_at, shows_temporary, print_of, refusal_of, after_line}
-use Rattle.rules.specs.Shown.{Conditions, Part, in_full, bare, Fact, announced, traded, cancelled, erred, corrected, fact_of}
-use Rattle.rules.specs.declared.Mode.{Mode}
-use Rattle.rules.specs.declared.Mode.TheVariants.{Normal, Dvd, Rpo, Mpv}
+use Rattle.rules.specs.Shown.{Conditions, Part, Fact, announced, traded, cancelled, erred, corrected, fact_of}
+use Rattle.rules.specs.declared.Mode.TheVariants.{Normal}
 use Rattle.rules.specs.declared.Line.{Line}
 use Rattle.rules.specs.declared.Line.TheVariants.{Dated, Listed, Moded, Leveled, Stepped, Traded, Cancelled, Erred, Corrected}
 

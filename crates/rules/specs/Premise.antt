@@ -1,6 +1,6 @@
 -- The premise of demand 3: outside normal mode no trade prints with a whole price of 1 to 9 dollars when the last printed price of that security was 10 dollars or more. Assumes nothing.
-use Rattle.std.specs.Prelude.{◌≡◌, Bool, true, false, ◌&&◌, not, List, [], ◌∷◌, leb}
-use Rattle.std.proofs.Math.Option.{Option, none, some}
+use Rattle.std.specs.Prelude.{◌≡◌, Bool, false, ◌&&◌, not, List, [], ◌∷◌, leb}
+use Rattle.std.proofs.Math.Option.{none, some}
 use Rattle.rules.specs.Columns.{between}
 use Rattle.rules.specs.Price.{whole_part}
 use Rattle.rules.specs.Trade.{prints_trade, is_normal, dollars}

@@ -1,5 +1,5 @@
 -- Document 01, "Shown facts and the whole day": one entry a print, prices by value, from the accepted lines alone. Assumes nothing.
-use Rattle.std.specs.Prelude.{ℕ, Bool, true, false, ◌&&◌, ◌||◌, not, List, [], ◌∷◌, ◌++◌}
+use Rattle.std.specs.Prelude.{ℕ, Bool, false, ◌&&◌, ◌||◌, not, List, [], ◌∷◌, ◌++◌}
 use Rattle.std.proofs.Math.Option.{Option, none, some}
 use Rattle.text.specs.Pick.{pick, same}
 use Rattle.rules.specs.Names.{has_temporary}
@@ -9,11 +9,9 @@ use Rattle.rules.specs.Trade.{prints_trade, trade_shows, is_normal}
 use Rattle.rules.specs.Correction.{prints_correction}
 use Rattle.rules.specs.Line.{line_of}
 use Rattle.rules.specs.Day.{Day, Call, security_at, name_at, shows_temporary, print_of, refusal_of, after}
-use Rattle.rules.specs.declared.Price.{Price}
 use Rattle.rules.specs.declared.Letters.{Letters}
 use Rattle.rules.specs.declared.Side.{Side}
 use Rattle.rules.specs.declared.Trade.{Trade}
-use Rattle.rules.specs.declared.Correction.{Correction}
 use Rattle.rules.specs.declared.Line.{Line}
 use Rattle.rules.specs.declared.Line.TheVariants.{Dated, Listed, Moded, Leveled, Stepped, Traded, Cancelled, Erred, Corrected}
 

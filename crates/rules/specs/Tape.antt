@@ -1,5 +1,5 @@
 -- Document 01, "Tape characters". Assumes nothing.
-use Rattle.std.specs.Prelude.{ℕ, Bool, ◌&&◌, ◌||◌, leb, eqb}
+use Rattle.std.specs.Prelude.{ℕ, Bool, ◌&&◌, ◌||◌, leb}
 use Rattle.text.specs.Bytes.{bytes}
 use Rattle.text.specs.Pick.{among}
 

@@ -1,12 +1,11 @@
 -- Document 01, "Trades by mode" (001, section 4). Assumes nothing.
-use Rattle.std.specs.Prelude.{ℕ, ◌+◌, ◌*◌, ◌/◌, ◌%◌, suc, Bool, true, false, ◌&&◌, ◌||◌, not, leb, ltb, eqb}
+use Rattle.std.specs.Prelude.{ℕ, ◌+◌, ◌*◌, ◌/◌, ◌%◌, Bool, true, false, ◌&&◌, ◌||◌, not, leb, ltb, eqb}
 use Rattle.text.specs.Pick.{pick}
 use Rattle.rules.specs.Price.{whole_part, units, form_by}
 use Rattle.rules.specs.Conditions.{has_rule}
 use Rattle.rules.specs.Qualifying.{for_range, for_last}
 use Rattle.rules.specs.declared.Mode.{Mode}
 use Rattle.rules.specs.declared.Mode.TheVariants.{Normal, Dvd, Rpo, Mpv}
-use Rattle.rules.specs.declared.Price.{Price}
 use Rattle.rules.specs.declared.Letters.{Letters}
 use Rattle.rules.specs.declared.Side.{Side}
 use Rattle.rules.specs.declared.Settings.{Settings}

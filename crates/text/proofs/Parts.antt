@@ -10,7 +10,7 @@ use lib.Seq.{length-take-le, take-take, take-add, take_all, take_at, drop-drop}
 use borrow.Author.Tests.{eqb-true}
 use Rattle.text.specs.Pick.{pick, opt, all}
 use Rattle.text.specs.Put.{put, Written}
-use Rattle.text.specs.Reading.{Read, found, before, heads, span, starts}
+use Rattle.text.specs.Reading.{found, before, heads, span, starts}
 use Rattle.text.proofs.Booleans.{and_both}
 use Rattle.text.proofs.Texts.{and_left, and_right}
 

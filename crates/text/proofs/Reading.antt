@@ -1,14 +1,13 @@
 -- Laws of reading: a number and a part that may be left out come back before any rest that cannot go on with them. Assumes nothing.
-use Prim.Native.Nat.{ℕ, suc, zero, ◌+◌, ◌*◌, ◌-◌, ◌/◌, ◌%◌, ◌≤◌, ◌<◌}
+use Prim.Native.Nat.{ℕ, suc, zero, ◌+◌, ◌*◌, ◌-◌, ◌/◌, ◌%◌, ◌<◌}
 use native.Mathlib.Omega.{arith}
-use mathlib.Core.Path.{◌≡◌, refl, ap, sym, ◌∙◌}
+use mathlib.Core.Path.{◌≡◌, refl, ap, ◌∙◌}
 use mathlib.Core.List.{List, [], ◌∷◌, ◌++◌, append_assoc}
-use mathlib.Core.Bool.{Bool, true, false, ◌&&◌, ◌||◌, not}
-use lib.Dec.{leb, eqb}
+use mathlib.Core.Bool.{Bool, true, false}
 use borrow.Author.Tests.{le-leb, eq-eqb}
 use Rattle.text.specs.Pick.{pick, opt, all}
 use Rattle.text.specs.Decimal.{places, decimal}
-use Rattle.text.specs.Reading.{Read, found, heads, is_digit, number, before, span, starts, past, taken}
+use Rattle.text.specs.Reading.{found, heads, is_digit, number, span, starts, past, taken}
 use Rattle.text.proofs.Texts.{and_left, and_right}
 use Rattle.text.proofs.Decimal.{decimal_small, decimal_big, ten_ind}
 

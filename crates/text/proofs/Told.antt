@@ -1,7 +1,6 @@
 -- A need `x ≡ pick ..`, `x ≡ a || b`, `x ≡ a && b` or `x ≡ not a` from tests on the way and from what callees ensure of their answers. Assumes nothing.
-use Prim.Native.Nat.{ℕ, ◌≤◌, ◌<◌}
-use mathlib.Core.Path.{◌≡◌, refl, sym, ap, ◌∙◌}
-use mathlib.Core.Bool.{Bool, true, false, ◌&&◌, ◌||◌, not}
+use mathlib.Core.Path.{◌≡◌, sym, ap, ◌∙◌}
+use mathlib.Core.Bool.{Bool, true, false, not}
 use borrow.Author.Tests.{not-true, not-false}
 use Rattle.text.specs.Pick.{pick}
 use Rattle.text.proofs.Tests.{bools}

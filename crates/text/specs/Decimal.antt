@@ -1,5 +1,5 @@
 -- Numbers in base ten, the lowest digit last. Assumes nothing.
-use Rattle.std.specs.Prelude.{ℕ, zero, suc, ◌+◌, ◌/◌, ◌%◌, Bool, true, false, List, [], ◌∷◌, ◌++◌, ltb}
+use Rattle.std.specs.Prelude.{ℕ, zero, suc, ◌+◌, ◌/◌, ◌%◌, true, false, List, [], ◌∷◌, ◌++◌, ltb}
 
 -- the last k digits of n, zeros too
 unfoldable pub places : ℕ → ℕ → List ℕ

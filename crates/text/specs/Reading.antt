@@ -1,5 +1,5 @@
 -- Reading a text from the left: what was found, and the rest. Assumes nothing.
-use Rattle.std.specs.Prelude.{ℕ, suc, zero, ◌+◌, ◌*◌, ◌-◌, Bool, true, false, ◌&&◌, List, [], ◌∷◌, leb, eqb}
+use Rattle.std.specs.Prelude.{ℕ, ◌+◌, ◌*◌, ◌-◌, Bool, true, false, ◌&&◌, List, [], ◌∷◌, leb, eqb}
 use Rattle.text.specs.Pick.{pick}
 
 pub record Read (A : Type 0) : Type 0 where

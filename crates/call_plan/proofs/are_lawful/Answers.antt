@@ -1,5 +1,4 @@
 use Rattle.text.proofs.Told.{answers}
-use borrow.Author.Rules.{rules}
 use Rattle.call_plan.proofs.are_lawful.Goals as goal
 
 pub returns-then-not-c : goal.returns-then-not-c

@@ -1,5 +1,4 @@
 use Rattle.call_plan.proofs.Plans.{cancel_there}
-use borrow.Author.Rules.{rules}
 use Rattle.call_plan.proofs.cancel_at.Goals as goal
 
 pub returns : goal.returns

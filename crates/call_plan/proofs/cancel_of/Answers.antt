@@ -1,5 +1,4 @@
 use Rattle.call_plan.proofs.Plans.{planned_cancel}
-use borrow.Author.Rules.{rules}
 use Rattle.call_plan.proofs.cancel_of.Goals as goal
 
 pub returns : goal.returns

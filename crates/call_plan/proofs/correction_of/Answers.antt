@@ -1,5 +1,4 @@
 use Rattle.call_plan.proofs.Plans.{planned_correction}
-use borrow.Author.Rules.{rules}
 use Rattle.call_plan.proofs.correction_of.Goals as goal
 
 pub returns : goal.returns

@@ -1,4 +1,4 @@
-use Rattle.text.proofs.Tests.{picks, bools}
+use Rattle.text.proofs.Tests.{picks}
 use Rattle.call_plan.specs.Plan.{date_plan}
 use Rattle.call_plan.proofs.date_plan.Goals as goal
 

@@ -1,8 +1,5 @@
 use borrow.Author.Rules.{rules}
-use Prim.Native.Nat.{ℕ, ◌-◌, ◌+◌, ◌≤◌, ◌<◌}
-use mathlib.Core.Path.{◌≡◌, refl}
-use Rattle.rules.specs.Day.{taken_name}
-use Rattle.call_table.specs.Rows.{rows_from, names_from}
+use mathlib.Core.Path.{refl}
 use Rattle.call_plan.proofs.Plans.{name_hit, name_miss, name_none}
 use Rattle.call_plan.proofs.is_name_taken.Goals as goal
 

@@ -1,6 +1,5 @@
-use Rattle.text.proofs.Tests.{picks, bools}
+use Rattle.text.proofs.Tests.{bools}
 use Rattle.rules.specs.Line.{is_shaped}
-use borrow.Author.Rules.{rules}
 use Rattle.call_plan.proofs.is_shaped.Goals as goal
 
 pub returns-then-line-ne-WIDTH : goal.returns-then-line-ne-WIDTH

@@ -1,5 +1,4 @@
 use Rattle.call_plan.proofs.Plans.{vacant_there, entered_there}
-use borrow.Author.Rules.{rules}
 use Rattle.call_plan.proofs.is_taken_at.Goals as goal
 
 pub returns-then-not-is_entered : goal.returns-then-not-is_entered

@@ -1,4 +1,4 @@
-use Rattle.text.proofs.Tests.{picks, bools}
+use Rattle.text.proofs.Tests.{bools}
 use Rattle.call_plan.proofs.is_undated.Goals as goal
 
 pub returns-then-kind-eq68 : goal.returns-then-kind-eq68

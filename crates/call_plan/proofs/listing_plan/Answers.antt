@@ -1,5 +1,4 @@
 use Rattle.call_plan.proofs.Plans.{in_use, no_name_lem, name_used, enters}
-use borrow.Author.Rules.{rules}
 use Rattle.call_plan.proofs.listing_plan.Goals as goal
 
 pub returns-then-is_entered : goal.returns-then-is_entered

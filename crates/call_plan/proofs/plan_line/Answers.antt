@@ -1,7 +1,6 @@
 use Rattle.text.proofs.Told.{answers}
 use Rattle.call_plan.specs.Plan.{plan_of}
 use Rattle.call_plan.proofs.Read.{shaped, shaped_some}
-use borrow.Author.Rules.{rules}
 use Rattle.call_plan.proofs.plan_line.Goals as goal
 
 pub returns-then-not-is_shaped : goal.returns-then-not-is_shaped

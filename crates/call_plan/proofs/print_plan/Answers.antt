@@ -1,5 +1,4 @@
 use Rattle.call_plan.proofs.Plans.{planned}
-use borrow.Author.Rules.{rules}
 use Rattle.call_plan.proofs.print_plan.Goals as goal
 
 -- each call answered what the rules say of the side; the law is applied outright, since a search among a whole security is too wide

@@ -1,5 +1,4 @@
 use Rattle.call_plan.proofs.Read.{owed_read, not_formed, not_ranged, read_through}
-use borrow.Author.Rules.{rules}
 use Rattle.rules.proofs.Fields.{name_length}
 use Rattle.call_plan.proofs.read_plan.Goals as goal
 

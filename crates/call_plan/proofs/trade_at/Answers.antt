@@ -1,5 +1,4 @@
 use Rattle.call_plan.proofs.Plans.{trade_there}
-use borrow.Author.Rules.{rules}
 use Rattle.call_plan.proofs.trade_at.Goals as goal
 
 pub returns : goal.returns

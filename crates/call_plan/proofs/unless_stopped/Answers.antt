@@ -1,6 +1,5 @@
 use Rattle.text.proofs.Told.{answers}
 use Rattle.call_plan.specs.Plan.{unless_stopped}
-use borrow.Author.Rules.{rules}
 use Rattle.call_plan.proofs.unless_stopped.Goals as goal
 
 pub returns-then-not-is_entered : goal.returns-then-not-is_entered

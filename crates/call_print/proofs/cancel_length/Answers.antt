@@ -1,5 +1,4 @@
 use Rattle.call_print.proofs.Room.{cancels}
-use borrow.Author.Rules.{rules}
 use Rattle.call_print.proofs.cancel_length.Goals as goal
 
 pub returns : goal.returns

@@ -1,6 +1,5 @@
 use Rattle.text.proofs.Writing.{length_named}
 use Rattle.call_print.proofs.Room.{corrections}
-use borrow.Author.Rules.{rules}
 use Rattle.call_print.proofs.correction_length.Goals as goal
 
 pub returns-then-c : goal.returns-then-c

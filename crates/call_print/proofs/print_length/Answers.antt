@@ -1,6 +1,5 @@
 use Rattle.text.proofs.Writing.{length_named}
 use Rattle.call_print.proofs.Room.{prints}
-use borrow.Author.Rules.{rules}
 use Rattle.call_print.proofs.print_length.Goals as goal
 
 pub returns-then-t : goal.returns-then-t

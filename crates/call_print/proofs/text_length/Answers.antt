@@ -1,6 +1,5 @@
 use Rattle.text.proofs.Writing.{length_named}
 use Rattle.call_print.proofs.Arms.{texts, quiet, sound_print, sound_cancel, sound_correct}
-use borrow.Author.Rules.{rules}
 use Rattle.call_print.proofs.text_length.Goals as goal
 
 pub print_length-requires : goal.print_length-requires

@@ -1,6 +1,5 @@
 use Rattle.text.proofs.Writing.{named, fits}
 use Rattle.call_print.proofs.Arms.{texts, quiet, sound_print, sound_cancel, sound_correct}
-use borrow.Author.Rules.{rules}
 use Rattle.call_print.proofs.write_text.Goals as goal
 
 pub write_mode-requires : goal.write_mode-requires

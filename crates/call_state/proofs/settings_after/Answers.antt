@@ -1,5 +1,4 @@
 use Rattle.call_state.proofs.Arms.{settings}
-use borrow.Author.Rules.{rules}
 use Rattle.call_state.proofs.settings_after.Goals as goal
 
 pub returns-in-Stop : goal.returns-in-Stop

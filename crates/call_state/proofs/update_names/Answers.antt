@@ -1,6 +1,5 @@
 use Rattle.call_state.proofs.Arms.{named_after}
 use Rattle.call_print.proofs.Arms.{place_enter, line_enter, line_room}
-use borrow.Author.Rules.{rules}
 use Rattle.rules.proofs.Fields.{name_length}
 use Rattle.call_state.proofs.update_names.Goals as goal
 

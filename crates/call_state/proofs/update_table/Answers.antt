@@ -1,6 +1,5 @@
 use Rattle.call_state.proofs.Arms.{tables}
 use Rattle.call_print.proofs.Arms.{place_print, place_enter, place_correct}
-use borrow.Author.Rules.{rules}
 use Rattle.call_state.proofs.update_table.Goals as goal
 
 pub store-requires : goal.store-requires

@@ -1,5 +1,4 @@
 use Rattle.call_table.proofs.Parts.{loaded}
-use borrow.Author.Rules.{rules}
 use Rattle.call_table.proofs.load.Goals as goal
 
 pub returns : goal.returns

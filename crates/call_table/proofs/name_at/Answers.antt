@@ -1,5 +1,4 @@
 use Rattle.call_table.proofs.Slots.{slot, slot_length}
-use borrow.Author.Rules.{rules}
 use Rattle.call_table.proofs.name_at.Goals as goal
 
 pub returns : goal.returns

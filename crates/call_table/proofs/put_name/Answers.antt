@@ -1,5 +1,4 @@
 use Rattle.call_table.proofs.Places.{placed}
-use borrow.Author.Rules.{rules}
 use Rattle.call_table.proofs.put_name.Goals as goal
 
 pub returns : goal.returns

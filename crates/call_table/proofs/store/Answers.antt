@@ -1,5 +1,4 @@
 use Rattle.call_table.proofs.Parts.{stored}
-use borrow.Author.Rules.{rules}
 use Rattle.call_table.proofs.store.Goals as goal
 
 pub returns : goal.returns

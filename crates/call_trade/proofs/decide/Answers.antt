@@ -1,7 +1,6 @@
 use mathlib.Core.Path.{ap}
 use mathlib.Core.Bool.{not}
 use Rattle.call_trade.proofs.Carried.{left_off, decided}
-use borrow.Author.Rules.{rules}
 use Rattle.call_trade.proofs.decide.Goals as goal
 
 -- left off: the values are those that the rules ask for, nothing prints, and the security after it is stored

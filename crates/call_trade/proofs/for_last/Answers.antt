@@ -1,5 +1,4 @@
 use Rattle.call_trade.proofs.Carried.{any_last}
-use borrow.Author.Rules.{rules}
 use Rattle.call_trade.proofs.for_last.Goals as goal
 
 pub returns-then-not-marked : goal.returns-then-not-marked

@@ -1,5 +1,4 @@
 use Rattle.call_trade.proofs.Carried.{any_range}
-use borrow.Author.Rules.{rules}
 use Rattle.call_trade.proofs.for_range.Goals as goal
 
 pub returns-then-not-marked : goal.returns-then-not-marked

@@ -1,5 +1,4 @@
 use Rattle.call_trade.proofs.Carried.{room_any, room_by}
-use borrow.Author.Rules.{rules}
 use Rattle.call_trade.proofs.has_room.Goals as goal
 
 pub returns-then-room-ge-LONGEST_PRINT : goal.returns-then-room-ge-LONGEST_PRINT

@@ -1,5 +1,4 @@
 use Rattle.call_trade.proofs.Carried.{no_rule}
-use borrow.Author.Rules.{rules}
 use Rattle.call_trade.proofs.has_rule.Goals as goal
 
 pub returns-then-not-marked : goal.returns-then-not-marked

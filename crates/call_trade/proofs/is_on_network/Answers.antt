@@ -1,5 +1,4 @@
 use Rattle.call_trade.proofs.Carried.{any_network}
-use borrow.Author.Rules.{rules}
 use Rattle.call_trade.proofs.is_on_network.Goals as goal
 
 pub returns-then-not-marked : goal.returns-then-not-marked

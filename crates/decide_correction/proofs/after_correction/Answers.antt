@@ -1,5 +1,4 @@
 use Rattle.decide_correction.proofs.Corrected.{corrected}
-use borrow.Author.Rules.{rules}
 use Rattle.decide_correction.proofs.after_correction.Goals as goal
 
 pub returns : goal.returns

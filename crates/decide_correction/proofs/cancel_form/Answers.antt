@@ -1,5 +1,4 @@
 use Rattle.decide_correction.proofs.Corrected.{form_cancel}
-use borrow.Author.Rules.{rules}
 use Rattle.decide_correction.proofs.cancel_form.Goals as goal
 
 pub returns : goal.returns

@@ -1,6 +1,5 @@
 use Rattle.text.proofs.Told.{answers}
 use Rattle.rules.specs.Correction.{cancel_shows}
-use borrow.Author.Rules.{rules}
 use Rattle.decide_correction.proofs.cancel_shows.Goals as goal
 
 pub returns-then-is_normal : goal.returns-then-is_normal

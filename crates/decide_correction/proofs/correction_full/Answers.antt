@@ -1,6 +1,5 @@
 use Rattle.text.proofs.Told.{answers}
 use Rattle.rules.specs.Correction.{correction_full}
-use borrow.Author.Rules.{rules}
 use Rattle.decide_correction.proofs.correction_full.Goals as goal
 
 pub returns-then-is_normal : goal.returns-then-is_normal

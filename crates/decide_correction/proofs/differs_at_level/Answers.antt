@@ -1,5 +1,4 @@
 use Rattle.text.proofs.Told.{answers}
-use borrow.Author.Rules.{rules}
 use Rattle.decide_correction.proofs.differs_at_level.Goals as goal
 
 pub returns-then-not-prices_differ : goal.returns-then-not-prices_differ

@@ -1,5 +1,4 @@
 use Rattle.text.proofs.Told.{answers}
-use borrow.Author.Rules.{rules}
 use Rattle.decide_correction.proofs.either_seller.Goals as goal
 
 pub returns-then-x : goal.returns-then-x

@@ -1,5 +1,4 @@
 use Rattle.text.proofs.Told.{answers}
-use borrow.Author.Rules.{rules}
 use Rattle.decide_correction.proofs.full_at.Goals as goal
 
 pub returns-then-ends_in_zero : goal.returns-then-ends_in_zero

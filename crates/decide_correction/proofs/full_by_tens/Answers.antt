@@ -1,5 +1,4 @@
 use Rattle.text.proofs.Told.{answers}
-use borrow.Author.Rules.{rules}
 use Rattle.decide_correction.proofs.full_by_tens.Goals as goal
 
 pub returns-then-is_mpv : goal.returns-then-is_mpv

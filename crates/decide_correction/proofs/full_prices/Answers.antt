@@ -1,6 +1,5 @@
 use Rattle.text.proofs.Told.{answers}
 use Rattle.rules.specs.Correction.{full_prices}
-use borrow.Author.Rules.{rules}
 use Rattle.decide_correction.proofs.full_prices.Goals as goal
 
 pub returns-then-s-eq1 : goal.returns-then-s-eq1

@@ -1,5 +1,4 @@
 use Rattle.decide_correction.proofs.Corrected.{modes}
-use borrow.Author.Rules.{rules}
 use Rattle.decide_correction.proofs.is_mpv.Goals as goal
 
 pub returns-in-Normal : goal.returns-in-Normal

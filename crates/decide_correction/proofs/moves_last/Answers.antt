@@ -1,6 +1,5 @@
 use Rattle.text.proofs.Told.{answers}
 use Rattle.decide_correction.proofs.Corrected.{unlike_value}
-use borrow.Author.Rules.{rules}
 use Rattle.decide_correction.proofs.moves_last.Goals as goal
 
 pub returns-then-not-for_last : goal.returns-then-not-for_last

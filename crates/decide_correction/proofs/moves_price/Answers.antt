@@ -1,5 +1,4 @@
 use Rattle.text.proofs.Told.{answers}
-use borrow.Author.Rules.{rules}
 use Rattle.decide_correction.proofs.moves_price.Goals as goal
 
 pub returns-then-new_range : goal.returns-then-new_range

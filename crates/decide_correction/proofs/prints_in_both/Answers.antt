@@ -1,6 +1,5 @@
 use Rattle.text.proofs.Told.{answers}
 use Rattle.rules.specs.Correction.{prints_in_both}
-use borrow.Author.Rules.{rules}
 use Rattle.decide_correction.proofs.prints_in_both.Goals as goal
 
 pub returns-then-s-eq1 : goal.returns-then-s-eq1

@@ -1,6 +1,5 @@
 use Rattle.text.proofs.Told.{answers}
 use Rattle.rules.specs.Correction.{prints_in_dvd}
-use borrow.Author.Rules.{rules}
 use Rattle.decide_correction.proofs.prints_in_dvd.Goals as goal
 
 pub returns-then-differs_at_level : goal.returns-then-differs_at_level

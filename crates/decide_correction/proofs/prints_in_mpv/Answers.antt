@@ -1,5 +1,4 @@
 use Rattle.text.proofs.Told.{answers}
-use borrow.Author.Rules.{rules}
 use Rattle.decide_correction.proofs.prints_in_mpv.Goals as goal
 
 pub returns-then-either_rule : goal.returns-then-either_rule

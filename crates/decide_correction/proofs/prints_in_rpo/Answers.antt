@@ -1,5 +1,4 @@
 use Rattle.text.proofs.Told.{answers}
-use borrow.Author.Rules.{rules}
 use Rattle.decide_correction.proofs.prints_in_rpo.Goals as goal
 
 pub returns-then-has_rule : goal.returns-then-has_rule

@@ -1,5 +1,4 @@
 use Rattle.text.proofs.Told.{answers}
-use borrow.Author.Rules.{rules}
 use Rattle.decide_correction.proofs.seller_differs.Goals as goal
 
 pub returns-then-not-either_seller : goal.returns-then-not-either_seller

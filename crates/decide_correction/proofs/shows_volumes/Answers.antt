@@ -1,6 +1,5 @@
 use Rattle.text.proofs.Told.{answers}
 use Rattle.rules.specs.Correction.{shows_volumes}
-use borrow.Author.Rules.{rules}
 use Rattle.decide_correction.proofs.shows_volumes.Goals as goal
 
 pub returns-then-at_level : goal.returns-then-at_level

@@ -1,5 +1,4 @@
 use Rattle.decide_correction.proofs.Corrected.{differ_by_tens}
-use borrow.Author.Rules.{rules}
 use Rattle.decide_correction.proofs.tens_differ.Goals as goal
 
 pub returns : goal.returns

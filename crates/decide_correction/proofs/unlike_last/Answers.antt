@@ -1,6 +1,5 @@
 use Rattle.text.proofs.Told.{answers}
 use Rattle.rules.specs.Correction.{unlike_last}
-use borrow.Author.Rules.{rules}
 use Rattle.decide_correction.proofs.unlike_last.Goals as goal
 
 pub returns-then-held-eq0 : goal.returns-then-held-eq0

@@ -1,6 +1,5 @@
 use Rattle.text.proofs.Told.{answers}
 use Rattle.rules.specs.Qualifying.{for_range, for_last}
-use borrow.Author.Rules.{rules}
 use Rattle.decide_letters.proofs.for_last.Goals as goal
 
 pub returns-then-not-for_range : goal.returns-then-not-for_range

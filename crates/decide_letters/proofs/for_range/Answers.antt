@@ -1,6 +1,5 @@
 use Rattle.text.proofs.Told.{answers}
 use Rattle.rules.specs.Qualifying.{for_range}
-use borrow.Author.Rules.{rules}
 use Rattle.decide_letters.proofs.for_range.Goals as goal
 
 pub returns : goal.returns

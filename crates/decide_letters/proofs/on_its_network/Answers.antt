@@ -1,5 +1,4 @@
 use Rattle.text.proofs.Told.{answers}
-use borrow.Author.Rules.{rules}
 use Rattle.decide_letters.proofs.on_its_network.Goals as goal
 
 pub returns-then-not-letter : goal.returns-then-not-letter

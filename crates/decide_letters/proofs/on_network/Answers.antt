@@ -1,6 +1,5 @@
 use Rattle.text.proofs.Told.{answers}
 use Rattle.rules.specs.Conditions.{on_network}
-use borrow.Author.Rules.{rules}
 use Rattle.decide_letters.proofs.on_network.Goals as goal
 
 pub returns-then-not-on_its_network : goal.returns-then-not-on_its_network

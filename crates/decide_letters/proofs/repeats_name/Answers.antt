@@ -1,6 +1,5 @@
 use Rattle.text.proofs.Told.{answers}
 use Rattle.rules.specs.Correction.{repeats_name}
-use borrow.Author.Rules.{rules}
 use Rattle.decide_letters.proofs.repeats_name.Goals as goal
 
 pub returns-then-letters : goal.returns-then-letters

@@ -1,5 +1,4 @@
 use Rattle.decide_levels.proofs.Values.{not_above, above}
-use borrow.Author.Rules.{rules}
 use Rattle.decide_levels.proofs.far_above.Goals as goal
 
 pub returns-then-a-b : goal.returns-then-a-b

@@ -1,7 +1,6 @@
 use Rattle.text.proofs.Told.{answers}
 use Rattle.decide_levels.proofs.Values.{far_either}
 use Rattle.rules.specs.Trade.{far_from_printed}
-use borrow.Author.Rules.{rules}
 use Rattle.decide_levels.proofs.far_from_printed.Goals as goal
 
 pub returns-then-p-eq0 : goal.returns-then-p-eq0

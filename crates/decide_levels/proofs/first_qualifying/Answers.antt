@@ -1,6 +1,5 @@
 use Rattle.text.proofs.Told.{answers}
 use Rattle.rules.specs.Trade.{first_qualifying}
-use borrow.Author.Rules.{rules}
 use Rattle.decide_levels.proofs.first_qualifying.Goals as goal
 
 pub returns-then-not-for_last : goal.returns-then-not-for_last

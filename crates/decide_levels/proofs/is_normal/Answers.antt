@@ -1,5 +1,4 @@
 use Rattle.decide_levels.proofs.Values.{modes}
-use borrow.Author.Rules.{rules}
 use Rattle.decide_levels.proofs.is_normal.Goals as goal
 
 pub returns-in-Normal : goal.returns-in-Normal

@@ -1,7 +1,6 @@
 use Rattle.text.proofs.Told.{answers}
 use Rattle.decide_levels.proofs.Values.{values}
 use Rattle.decide_levels.specs.Parts.{last_far}
-use borrow.Author.Rules.{rules}
 use Rattle.decide_levels.proofs.last_far.Goals as goal
 
 pub returns-then-not-for_last : goal.returns-then-not-for_last

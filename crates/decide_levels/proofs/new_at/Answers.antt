@@ -1,6 +1,5 @@
 use Rattle.text.proofs.Told.{answers}
 use Rattle.decide_levels.specs.Parts.{new_at}
-use borrow.Author.Rules.{rules}
 use Rattle.decide_levels.proofs.new_at.Goals as goal
 
 pub returns-then-new_high : goal.returns-then-new_high

@@ -1,7 +1,6 @@
 use Rattle.text.proofs.Told.{answers}
 use Rattle.decide_levels.proofs.Values.{values}
 use Rattle.rules.specs.Trade.{new_range}
-use borrow.Author.Rules.{rules}
 use Rattle.decide_levels.proofs.new_range.Goals as goal
 
 pub returns-then-not-for_range : goal.returns-then-not-for_range

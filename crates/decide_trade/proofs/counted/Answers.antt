@@ -1,6 +1,5 @@
 use Rattle.text.proofs.Told.{answers}
 use Rattle.rules.specs.Trade.{counted}
-use borrow.Author.Rules.{rules}
 use Rattle.decide_trade.proofs.counted.Goals as goal
 
 pub returns-then-not-test : goal.returns-then-not-test

@@ -1,5 +1,4 @@
 use Rattle.decide_trade.proofs.Value.{counts_moved}
-use borrow.Author.Rules.{rules}
 use Rattle.decide_trade.proofs.counts_by.Goals as goal
 
 pub returns : goal.returns

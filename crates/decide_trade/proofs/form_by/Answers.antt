@@ -1,5 +1,4 @@
 use Rattle.print_price.proofs.Texts.{form_as}
-use borrow.Author.Rules.{rules}
 use Rattle.decide_trade.proofs.form_by.Goals as goal
 
 pub returns : goal.returns

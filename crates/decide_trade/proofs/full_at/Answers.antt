@@ -1,6 +1,5 @@
 use Rattle.text.proofs.Told.{answers}
 use Rattle.rules.specs.Trade.{full_at}
-use borrow.Author.Rules.{rules}
 use Rattle.decide_trade.proofs.full_at.Goals as goal
 
 pub returns-then-s-eq0 : goal.returns-then-s-eq0

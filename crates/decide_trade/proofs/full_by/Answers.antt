@@ -1,6 +1,5 @@
 use Rattle.text.proofs.Told.{answers}
 use Rattle.decide_trade.specs.Value.{full_by}
-use borrow.Author.Rules.{rules}
 use Rattle.decide_trade.proofs.full_by.Goals as goal
 
 pub returns-then-is_normal : goal.returns-then-is_normal

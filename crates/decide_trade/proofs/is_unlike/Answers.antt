@@ -1,5 +1,4 @@
 use Rattle.text.proofs.Told.{answers}
-use borrow.Author.Rules.{rules}
 use Rattle.decide_trade.proofs.is_unlike.Goals as goal
 
 pub returns-then-not-lasts : goal.returns-then-not-lasts

@@ -1,5 +1,4 @@
 use Rattle.text.proofs.Told.{answers}
-use borrow.Author.Rules.{rules}
 use Rattle.decide_trade.proofs.makes_range.Goals as goal
 
 pub returns-then-not-ranges : goal.returns-then-not-ranges

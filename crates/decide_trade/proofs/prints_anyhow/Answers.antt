@@ -1,6 +1,5 @@
 use Rattle.text.proofs.Told.{answers}
 use Rattle.decide_trade.specs.Value.{anyhow_by}
-use borrow.Author.Rules.{rules}
 use Rattle.decide_trade.proofs.prints_anyhow.Goals as goal
 
 pub returns-then-six : goal.returns-then-six

@@ -1,6 +1,5 @@
 use Rattle.decide_trade.proofs.Value.{by_mode_lem}
 use Rattle.decide_trade.specs.Value.{prints_by}
-use borrow.Author.Rules.{rules}
 use Rattle.decide_trade.proofs.prints_by.Goals as goal
 
 pub returns-in-Normal : goal.returns-in-Normal

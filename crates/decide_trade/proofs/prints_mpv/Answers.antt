@@ -1,6 +1,5 @@
 use Rattle.text.proofs.Told.{answers}
 use Rattle.decide_trade.specs.Value.{mpv_by}
-use borrow.Author.Rules.{rules}
 use Rattle.decide_trade.proofs.prints_mpv.Goals as goal
 
 pub returns-then-is_far : goal.returns-then-is_far

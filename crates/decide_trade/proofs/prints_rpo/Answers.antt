@@ -1,6 +1,5 @@
 use Rattle.text.proofs.Told.{answers}
 use Rattle.decide_trade.specs.Value.{rpo_by}
-use borrow.Author.Rules.{rules}
 use Rattle.decide_trade.proofs.prints_rpo.Goals as goal
 
 pub returns-then-makes_range : goal.returns-then-makes_range

@@ -1,5 +1,4 @@
 use Rattle.decide_trade.proofs.Value.{side_prints}
-use borrow.Author.Rules.{rules}
 use Rattle.decide_trade.proofs.prints_trade.Goals as goal
 
 pub returns : goal.returns

@@ -1,5 +1,4 @@
 use Rattle.engine.proofs.Numbers.{answer_refused, answer_accepted}
-use borrow.Author.Rules.{rules}
 use Rattle.engine.proofs.answer_of.Goals as goal
 
 pub returns-in-Accepted : goal.returns-in-Accepted

@@ -1,7 +1,6 @@
 use Rattle.call_print.proofs.Sound.{sound_asked}
 use Rattle.engine.proofs.Numbers.{asked_as}
 use Rattle.engine.proofs.Steps.{asked_for}
-use borrow.Author.Rules.{rules}
 use Rattle.engine.proofs.ask_line.Goals as goal
 
 pub fitted-requires : goal.fitted-requires

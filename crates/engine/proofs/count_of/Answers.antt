@@ -1,5 +1,4 @@
 use Rattle.engine.proofs.Numbers.{counts}
-use borrow.Author.Rules.{rules}
 use Rattle.engine.proofs.count_of.Goals as goal
 
 pub returns-in-Accepted : goal.returns-in-Accepted

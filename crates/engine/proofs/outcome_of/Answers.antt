@@ -1,5 +1,4 @@
 use Rattle.engine.proofs.Arms.{outcomes}
-use borrow.Author.Rules.{rules}
 use Rattle.engine.proofs.outcome_of.Goals as goal
 
 pub returns-in-Stop : goal.returns-in-Stop

@@ -1,7 +1,6 @@
 use Rattle.call_print.proofs.Sound.{sound_asked}
 use Rattle.engine.proofs.Steps.{taken}
 use Rattle.call_print.proofs.Room.{fitted_sound, print_fits}
-use borrow.Author.Rules.{rules}
 use Rattle.engine.proofs.take_by_plan.Goals as goal
 
 pub fitted-p-requires : goal.fitted-p-requires

@@ -1,5 +1,4 @@
 use Rattle.engine.proofs.TradeCalls.{some_place, place_in, line_room, side_stands, not_entered, some_unit, carried}
-use borrow.Author.Rules.{rules}
 use Rattle.engine.proofs.take_good.Goals as goal
 
 pub overflow_sub-place : goal.overflow_sub-place

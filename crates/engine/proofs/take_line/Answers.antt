@@ -1,5 +1,4 @@
 use Rattle.engine.proofs.TradeCalls.{trade_done, trade_passed}
-use borrow.Author.Rules.{rules}
 use Rattle.engine.proofs.take_line.Goals as goal
 
 pub returns-then-t : goal.returns-then-t

@@ -1,5 +1,4 @@
 use Rattle.engine.proofs.TradeCalls.{undated, no_good, good_call}
-use borrow.Author.Rules.{rules}
 use Rattle.engine.proofs.take_trade.Goals as goal
 
 pub returns-then-st-eq0 : goal.returns-then-st-eq0

@@ -1,9 +1,6 @@
-use Prim.Native.Nat.{◌-◌}
 use mathlib.Core.List.{[]}
 use native.Mathlib.Omega.{arith}
-use lib.ListN.{length}
-use Rattle.feed_gather.specs.Gather.{started, block_taken}
-use Rattle.feed_gather.proofs.Blocks.{from_to, here_out, here_number, Turn, turn_start, turn_less, turn_end, turn_none, turn_stop, turn_on}
+use Rattle.feed_gather.proofs.Blocks.{from_to, here_out, here_number, turn_start, turn_less, turn_end, turn_none, turn_stop, turn_on}
 use Rattle.explain_block.specs.Explains.{explain_program}
 use borrow.Author.Rules.{rules}
 use mathlib.Core.Path.{ap}

@@ -1,14 +1,10 @@
 -- The loop's invariant: going on from here leads where the whole block leads. Assumes nothing.
 use Prim.Native.Nat.{◌-◌}
 use mathlib.Core.List.{[]}
-use native.Mathlib.Omega.{arith}
 use lib.ListN.{length}
 use Rattle.feed_gather.specs.Gather.{started, block_taken}
-use Rattle.feed_gather.proofs.Blocks.{from_to, here_out, here_number, Turn, turn_start, turn_less, turn_end, turn_none, turn_stop, turn_on}
+use Rattle.feed_gather.proofs.Blocks.{Turn}
 use Rattle.explain_block.specs.Explains.{explain_program}
-use borrow.Author.Rules.{rules}
-use mathlib.Core.Path.{ap}
-use mathlib.Core.Bool.{not}
 use Rattle.explain_block.proofs.explain_lines.Given as goal
 
 abbrev pub invariant-loop-f : goal.invariant-loop-f

@@ -1,5 +1,4 @@
 use Rattle.explain_block.proofs.Lines.{explained_adds, line_explained}
-use borrow.Author.Rules.{rules}
 use Rattle.explain_block.proofs.explain_part.Goals as goal
 
 pub overflow_add-result-2 : goal.overflow_add-result-2

@@ -1,5 +1,4 @@
 use Rattle.feed_gather.proofs.Blocks.{room_is}
-use borrow.Author.Rules.{rules}
 use Rattle.explain_block.specs.Explains.{explain_program}
 use Rattle.explain_block.proofs.room_left.Goals as goal
 

@@ -1,5 +1,4 @@
 use Rattle.explain_block.proofs.Calls.{line_room, call_explained}
-use borrow.Author.Rules.{rules}
 use Rattle.explain_block.proofs.take_explained.Goals as goal
 
 pub write_explanation-k-requires : goal.write_explanation-k-requires

@@ -1,5 +1,4 @@
 use Rattle.explain_fate.proofs.Fates.{printed}
-use borrow.Author.Rules.{rules}
 use Rattle.explain_fate.proofs.cancel_fate.Goals as goal
 
 pub returns : goal.returns

@@ -1,5 +1,4 @@
 use Rattle.explain_fate.proofs.Fates.{printed}
-use borrow.Author.Rules.{rules}
 use Rattle.explain_fate.proofs.correction_fate.Goals as goal
 
 pub returns-then-not-prints_correction : goal.returns-then-not-prints_correction

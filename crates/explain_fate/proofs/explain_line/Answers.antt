@@ -1,6 +1,5 @@
 use Rattle.explain_fate.proofs.Agree.{sound_reading, told}
 use Rattle.explain_fate.proofs.Numbers.{explained_as}
-use borrow.Author.Rules.{rules}
 use Rattle.explain_fate.proofs.explain_line.Goals as goal
 
 pub read_fate-taken-requires : goal.read_fate-taken-requires

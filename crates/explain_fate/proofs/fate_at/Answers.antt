@@ -1,7 +1,6 @@
 use Rattle.text.proofs.Told.{case_3}
 use Rattle.explain_fate.specs.Explained.{fate_at}
 use Rattle.line_owed.proofs.Owed.{owed_kinds}
-use borrow.Author.Rules.{rules}
 use Rattle.explain_fate.proofs.fate_at.Goals as goal
 
 pub trade_fate-requires : goal.trade_fate-requires

@@ -1,7 +1,6 @@
 use Rattle.claim_calls.specs.Held.{stop_of}
 use Rattle.explain_fate.specs.Read.{fate_if}
 use Rattle.text.proofs.Told.{case_2}
-use borrow.Author.Rules.{rules}
 use Rattle.explain_fate.proofs.fate_of.Goals as goal
 
 pub returns-in-Stop : goal.returns-in-Stop

@@ -1,7 +1,6 @@
 use Rattle.text.proofs.Told.{answers}
 use Rattle.explain_fate.specs.Explained.{kind_in}
 use Rattle.call_plan.proofs.Read.{shaped_some}
-use borrow.Author.Rules.{rules}
 use Rattle.explain_fate.proofs.kind_of.Goals as goal
 
 pub returns-then-not-is_shaped : goal.returns-then-not-is_shaped

@@ -1,5 +1,4 @@
 use Rattle.explain_fate.proofs.Fates.{places}
-use borrow.Author.Rules.{rules}
 use Rattle.explain_fate.proofs.line_fate.Goals as goal
 
 pub place_of-place-requires : goal.place_of-place-requires

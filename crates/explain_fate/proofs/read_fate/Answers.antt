@@ -1,7 +1,6 @@
 use Rattle.explain_fate.specs.Read.{read_fate}
 use Rattle.text.proofs.Told.{case_3}
 use Rattle.explain_fate.proofs.Fates.{sound_taken}
-use borrow.Author.Rules.{rules}
 use Rattle.explain_fate.proofs.read_fate.Goals as goal
 
 pub line_fate-requires : goal.line_fate-requires

@@ -1,6 +1,5 @@
 use Rattle.explain_fate.specs.Read.{read_security}
 use Rattle.text.proofs.Told.{case}
-use borrow.Author.Rules.{rules}
 use Rattle.explain_fate.proofs.read_security.Goals as goal
 
 pub returns-in-Refused : goal.returns-in-Refused

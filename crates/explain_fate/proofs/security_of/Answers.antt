@@ -1,6 +1,5 @@
 use Rattle.explain_fate.specs.Explained.{security_of}
 use Rattle.text.proofs.Told.{case}
-use borrow.Author.Rules.{rules}
 use Rattle.explain_fate.proofs.security_of.Goals as goal
 
 pub returns-in-Dated : goal.returns-in-Dated

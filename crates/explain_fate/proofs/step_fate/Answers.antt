@@ -1,6 +1,5 @@
 use Rattle.text.proofs.Told.{answers}
 use Rattle.explain_fate.specs.Explained.{step_fate}
-use borrow.Author.Rules.{rules}
 use Rattle.explain_fate.proofs.step_fate.Goals as goal
 
 pub returns-then-is_mpv : goal.returns-then-is_mpv

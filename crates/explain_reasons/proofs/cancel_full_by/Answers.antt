@@ -1,5 +1,4 @@
 use Rattle.explain_reasons.proofs.Given.{cancel_normal, cancel_full}
-use borrow.Author.Rules.{rules}
 use Rattle.explain_reasons.proofs.cancel_full_by.Goals as goal
 
 pub returns-then-is_normal : goal.returns-then-is_normal

@@ -1,5 +1,4 @@
 use Rattle.explain_reasons.proofs.Given.{cancel_shown_normal, cancel_shown}
-use borrow.Author.Rules.{rules}
 use Rattle.explain_reasons.proofs.cancel_shows_by.Goals as goal
 
 pub returns-then-is_normal : goal.returns-then-is_normal

@@ -1,5 +1,4 @@
 use Rattle.explain_reasons.proofs.Given.{correction_shown_normal, correction_shown}
-use borrow.Author.Rules.{rules}
 use Rattle.explain_reasons.proofs.correction_shows_by.Goals as goal
 
 pub returns-then-is_normal : goal.returns-then-is_normal

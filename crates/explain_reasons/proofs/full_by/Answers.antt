@@ -1,5 +1,4 @@
 use Rattle.explain_reasons.proofs.Given.{full_given}
-use borrow.Author.Rules.{rules}
 use Rattle.explain_reasons.proofs.full_by.Goals as goal
 
 pub returns : goal.returns

@@ -1,6 +1,5 @@
 use Rattle.text.proofs.Told.{answers}
 use Rattle.explain_reasons.proofs.Given.{values}
-use borrow.Author.Rules.{rules}
 use Rattle.explain_reasons.proofs.makes_low.Goals as goal
 
 pub returns-then-not-for_range : goal.returns-then-not-for_range

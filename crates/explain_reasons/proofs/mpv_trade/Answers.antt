@@ -1,5 +1,4 @@
 use Rattle.explain_reasons.proofs.Given.{mpv_given}
-use borrow.Author.Rules.{rules}
 use Rattle.explain_reasons.proofs.mpv_trade.Goals as goal
 
 pub returns : goal.returns

@@ -1,5 +1,4 @@
 use Rattle.explain_reasons.proofs.Given.{rpo_given}
-use borrow.Author.Rules.{rules}
 use Rattle.explain_reasons.proofs.rpo_trade.Goals as goal
 
 pub returns : goal.returns

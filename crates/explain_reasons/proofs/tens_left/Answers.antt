@@ -1,6 +1,5 @@
 use Rattle.text.proofs.Told.{answers}
 use Rattle.explain_reasons.specs.Reasons.{tens_left}
-use borrow.Author.Rules.{rules}
 use Rattle.explain_reasons.proofs.tens_left.Goals as goal
 
 pub returns-then-p-eq0 : goal.returns-then-p-eq0

@@ -1,5 +1,4 @@
 use Rattle.explain_reasons.proofs.Given.{trade_normal, trade_whole}
-use borrow.Author.Rules.{rules}
 use Rattle.explain_reasons.proofs.trade_full_by.Goals as goal
 
 pub returns-then-is_normal : goal.returns-then-is_normal

@@ -1,6 +1,5 @@
 use Rattle.explain_reasons.proofs.Given.{modes}
 use Rattle.explain_reasons.specs.Reasons.{trade_prints}
-use borrow.Author.Rules.{rules}
 use Rattle.explain_reasons.proofs.trade_prints.Goals as goal
 
 pub returns-in-Normal : goal.returns-in-Normal

@@ -1,5 +1,4 @@
 use Rattle.explain_reasons.proofs.Given.{trade_shown_normal, trade_shown}
-use borrow.Author.Rules.{rules}
 use Rattle.explain_reasons.proofs.trade_shows_by.Goals as goal
 
 pub returns-then-is_normal : goal.returns-then-is_normal

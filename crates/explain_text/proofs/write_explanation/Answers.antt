@@ -1,6 +1,5 @@
 use Rattle.text.proofs.Writing.{rooms, then}
 use Rattle.explain_text.specs.Lines.{line_of}
-use borrow.Author.Rules.{rules}
 use Rattle.explain_text.proofs.write_explanation.Goals as goal
 
 pub write_head-a-requires : goal.write_head-a-requires

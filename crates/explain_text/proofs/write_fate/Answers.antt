@@ -1,6 +1,5 @@
 use Rattle.text.proofs.Writing.{named, fits}
 use Rattle.explain_text.proofs.Lines.{fates}
-use borrow.Author.Rules.{rules}
 use Rattle.explain_text.proofs.write_fate.Goals as goal
 
 pub write_refused-requires : goal.write_refused-requires

@@ -1,6 +1,5 @@
 use Rattle.text.proofs.Writing.{rooms, then}
 use Rattle.explain_text.specs.Lines.{head_text}
-use borrow.Author.Rules.{rules}
 use Rattle.explain_text.proofs.write_head.Goals as goal
 
 pub write_right-a-requires : goal.write_right-a-requires

@@ -1,5 +1,4 @@
 use Rattle.explain_text.proofs.Lines.{byte_written}
-use borrow.Author.Rules.{rules}
 use Rattle.explain_text.proofs.write_kind.Goals as goal
 
 pub returns : goal.returns

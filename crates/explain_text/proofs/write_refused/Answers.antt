@@ -1,6 +1,5 @@
 use Rattle.text.proofs.Writing.{rooms, then}
 use Rattle.explain_text.specs.Lines.{refused_text}
-use borrow.Author.Rules.{rules}
 use Rattle.explain_text.proofs.write_refused.Goals as goal
 
 pub write_bytes-a-requires : goal.write_bytes-a-requires

@@ -1,6 +1,5 @@
 use Rattle.text.proofs.Writing.{choices}
 use Rattle.explain_text.specs.Lines.{security_text}
-use borrow.Author.Rules.{rules}
 use Rattle.explain_text.proofs.write_security.Goals as goal
 
 pub write_bytes-requires : goal.write_bytes-requires

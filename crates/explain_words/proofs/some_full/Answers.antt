@@ -1,6 +1,5 @@
 use Rattle.text.proofs.Told.{answers}
 use Rattle.explain_reasons.specs.Reasons.{some_full}
-use borrow.Author.Rules.{rules}
 use Rattle.explain_words.proofs.some_full.Goals as goal
 
 pub returns-then-r : goal.returns-then-r

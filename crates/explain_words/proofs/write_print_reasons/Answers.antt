@@ -1,6 +1,5 @@
 use Rattle.text.proofs.Writing.{rooms, then}
 use Rattle.explain_words.specs.Text.{print_reasons}
-use borrow.Author.Rules.{rules}
 use Rattle.explain_words.proofs.write_print_reasons.Goals as goal
 
 pub write_range_reasons-a-requires : goal.write_range_reasons-a-requires

@@ -1,6 +1,5 @@
 use Rattle.text.proofs.Writing.{rooms, then}
 use Rattle.explain_words.specs.Text.{three}
-use borrow.Author.Rules.{rules}
 use Rattle.explain_words.proofs.write_three.Goals as goal
 
 pub write_optional-i-requires : goal.write_optional-i-requires

@@ -1,6 +1,5 @@
 use Rattle.text.proofs.Writing.{rooms, then}
 use Rattle.explain_words.specs.Text.{volume_text}
-use borrow.Author.Rules.{rules}
 use Rattle.explain_words.proofs.write_volume.Goals as goal
 
 pub write_bytes-a-requires : goal.write_bytes-a-requires

@@ -1,6 +1,5 @@
 use Rattle.text.proofs.Writing.{rooms, then}
 use Rattle.explain_words.specs.Text.{volume_reasons}
-use borrow.Author.Rules.{rules}
 use Rattle.explain_words.proofs.write_volume_reasons.Goals as goal
 
 pub write_level_reasons-a-requires : goal.write_level_reasons-a-requires

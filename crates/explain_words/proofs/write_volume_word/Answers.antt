@@ -1,7 +1,6 @@
 use Rattle.text.proofs.Tests.{told}
 use Rattle.text.proofs.Writing.{choices}
 use Rattle.explain_words.specs.Text.{volume_word}
-use borrow.Author.Rules.{rules}
 use Rattle.explain_words.proofs.write_volume_word.Goals as goal
 
 pub write_bytes-requires : goal.write_bytes-requires

@@ -1,5 +1,4 @@
 use Rattle.exports.proofs.Laws.{left_accepted}
-use borrow.Author.Rules.{rules}
 use Rattle.exports.proofs.leave.Goals as goal
 
 pub returns-in-Accepted : goal.returns-in-Accepted

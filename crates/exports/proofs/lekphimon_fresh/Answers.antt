@@ -1,5 +1,4 @@
 use Rattle.exports.proofs.Laws.{numbers_are}
-use borrow.Author.Rules.{rules}
 use Rattle.exports.proofs.lekphimon_fresh.Goals as goal
 
 pub returns : goal.returns

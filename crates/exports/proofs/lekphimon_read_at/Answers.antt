@@ -1,5 +1,4 @@
 use Rattle.exports.proofs.Laws.{read_numbers}
-use borrow.Author.Rules.{rules}
 use Rattle.exports.proofs.lekphimon_read_at.Goals as goal
 
 pub returns : goal.returns

@@ -1,5 +1,4 @@
 use Rattle.exports.proofs.Laws.{shown_numbers}
-use borrow.Author.Rules.{rules}
 use Rattle.exports.proofs.lekphimon_shown.Goals as goal
 
 pub returns : goal.returns

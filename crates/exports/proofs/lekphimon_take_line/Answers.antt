@@ -1,5 +1,4 @@
 use Rattle.exports.proofs.Laws.{taken_numbers}
-use borrow.Author.Rules.{rules}
 use Rattle.exports.proofs.lekphimon_take_line.Goals as goal
 
 pub returns : goal.returns

@@ -1,5 +1,4 @@
 use Rattle.exports.proofs.Laws.{read_refused}
-use borrow.Author.Rules.{rules}
 use Rattle.exports.proofs.read_answer.Goals as goal
 
 pub returns-in-Refused : goal.returns-in-Refused

@@ -1,5 +1,4 @@
 use Rattle.exports.proofs.Laws.{settings_are}
-use borrow.Author.Rules.{rules}
 use Rattle.exports.proofs.settings_of.Goals as goal
 
 pub returns : goal.returns

@@ -1,5 +1,4 @@
 use Rattle.feed_gather.proofs.Blocks.{room_is}
-use borrow.Author.Rules.{rules}
 use Rattle.facts_block.specs.Shows.{facts_program}
 use Rattle.facts_block.proofs.room_left.Goals as goal
 

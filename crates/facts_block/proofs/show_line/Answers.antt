@@ -1,5 +1,4 @@
 use Rattle.facts_block.proofs.Lines.{shown_adds, line_shown}
-use borrow.Author.Rules.{rules}
 use Rattle.facts_block.proofs.show_line.Goals as goal
 
 pub overflow_add-result-2 : goal.overflow_add-result-2

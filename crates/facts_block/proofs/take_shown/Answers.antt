@@ -1,5 +1,4 @@
 use Rattle.facts_block.proofs.Calls.{count_fits, count_taken, entry_room, call_shown}
-use borrow.Author.Rules.{rules}
 use Rattle.facts_block.proofs.take_shown.Goals as goal
 
 pub slice_bounds-tape-end : goal.slice_bounds-tape-end

@@ -1,5 +1,4 @@
 use Rattle.facts_entry.proofs.Arms.{conditions_held}
-use borrow.Author.Rules.{rules}
 use Rattle.facts_entry.proofs.conditions_of.Goals as goal
 
 pub returns : goal.returns

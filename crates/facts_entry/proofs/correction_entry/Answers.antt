@@ -1,5 +1,4 @@
 use Rattle.facts_entry.proofs.Arms.{shown}
-use borrow.Author.Rules.{rules}
 use Rattle.facts_entry.proofs.correction_entry.Goals as goal
 
 pub returns-then-not-c : goal.returns-then-not-c

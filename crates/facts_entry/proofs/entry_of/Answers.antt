@@ -1,5 +1,4 @@
 use Rattle.facts_entry.proofs.Agree.{sound_asked, told, entry_told}
-use borrow.Author.Rules.{rules}
 use Rattle.facts_entry.proofs.entry_of.Goals as goal
 
 pub plan_entry-requires : goal.plan_entry-requires

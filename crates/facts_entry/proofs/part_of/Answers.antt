@@ -1,5 +1,4 @@
 use Rattle.facts_entry.proofs.Arms.{parts}
-use borrow.Author.Rules.{rules}
 use Rattle.facts_entry.proofs.part_of.Goals as goal
 
 pub returns-then-not-normal : goal.returns-then-not-normal

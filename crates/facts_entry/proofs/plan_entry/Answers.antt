@@ -1,5 +1,4 @@
 use Rattle.facts_entry.proofs.Arms.{entries, sounds}
-use borrow.Author.Rules.{rules}
 use Rattle.facts_entry.proofs.plan_entry.Goals as goal
 
 pub trade_entry-requires : goal.trade_entry-requires

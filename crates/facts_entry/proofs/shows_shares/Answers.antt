@@ -1,5 +1,4 @@
 use Rattle.facts_entry.proofs.Arms.{shares}
-use borrow.Author.Rules.{rules}
 use Rattle.facts_entry.proofs.shows_shares.Goals as goal
 
 pub returns-then-is_normal : goal.returns-then-is_normal

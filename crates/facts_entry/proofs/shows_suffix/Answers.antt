@@ -1,5 +1,4 @@
 use Rattle.facts_entry.proofs.Arms.{suffixes}
-use borrow.Author.Rules.{rules}
 use Rattle.facts_entry.proofs.shows_suffix.Goals as goal
 
 pub returns-then-not-t : goal.returns-then-not-t

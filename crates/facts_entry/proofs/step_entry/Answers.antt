@@ -1,5 +1,4 @@
 use Rattle.facts_entry.proofs.Arms.{steps}
-use borrow.Author.Rules.{rules}
 use Rattle.facts_entry.proofs.step_entry.Goals as goal
 
 pub returns-in-Normal : goal.returns-in-Normal

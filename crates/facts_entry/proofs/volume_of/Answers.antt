@@ -1,5 +1,4 @@
 use Rattle.facts_entry.proofs.Arms.{volumes}
-use borrow.Author.Rules.{rules}
 use Rattle.facts_entry.proofs.volume_of.Goals as goal
 
 pub returns-then-shows_shares : goal.returns-then-shows_shares

@@ -1,6 +1,5 @@
 use Rattle.text.proofs.Writing.{rooms, then}
 use Rattle.facts_line.specs.Lines.{amended_text}
-use borrow.Author.Rules.{rules}
 use Rattle.facts_line.proofs.write_amended.Goals as goal
 
 pub write_sided-i-requires : goal.write_sided-i-requires

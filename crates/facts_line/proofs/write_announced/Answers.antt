@@ -1,6 +1,5 @@
 use Rattle.text.proofs.Writing.{rooms, then}
 use Rattle.facts_line.specs.Lines.{announced_text}
-use borrow.Author.Rules.{rules}
 use Rattle.facts_line.proofs.write_announced.Goals as goal
 
 pub write_bytes-i-requires : goal.write_bytes-i-requires

@@ -1,6 +1,5 @@
 use Rattle.text.proofs.Writing.{named, fits, written_nothing}
 use Rattle.facts_line.proofs.Lines.{lines}
-use borrow.Author.Rules.{rules}
 use Rattle.facts_line.proofs.write_entry.Goals as goal
 
 pub write_announced-requires : goal.write_announced-requires

@@ -1,6 +1,5 @@
 use Rattle.text.proofs.Writing.{choices}
 use Rattle.facts_line.specs.Lines.{flag_text}
-use borrow.Author.Rules.{rules}
 use Rattle.facts_line.proofs.write_flag.Goals as goal
 
 pub write_bytes-requires : goal.write_bytes-requires

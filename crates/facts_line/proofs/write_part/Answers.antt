@@ -1,6 +1,5 @@
 use Rattle.text.proofs.Writing.{named, fits}
 use Rattle.facts_line.proofs.Lines.{parts}
-use borrow.Author.Rules.{rules}
 use Rattle.facts_line.proofs.write_part.Goals as goal
 
 pub write_full-requires : goal.write_full-requires

@@ -1,6 +1,5 @@
 use Rattle.text.proofs.Writing.{rooms, then}
 use Rattle.facts_line.specs.Lines.{trade_text}
-use borrow.Author.Rules.{rules}
 use Rattle.facts_line.proofs.write_trade.Goals as goal
 
 pub write_trade_head-i-requires : goal.write_trade_head-i-requires

@@ -1,7 +1,6 @@
 use Rattle.text.proofs.Writing.{rooms, then}
 use Rattle.facts_entry.specs.Entry.{conditions_in}
 use Rattle.facts_line.specs.Lines.{trade_tail}
-use borrow.Author.Rules.{rules}
 use Rattle.facts_line.proofs.write_trade_tail.Goals as goal
 
 pub write_bytes-i-requires : goal.write_bytes-i-requires

@@ -1,6 +1,5 @@
 use Rattle.text.proofs.Writing.{named, fits}
 use Rattle.facts_line.proofs.Lines.{parts}
-use borrow.Author.Rules.{rules}
 use Rattle.facts_line.proofs.write_volume.Goals as goal
 
 pub write_decimal-requires : goal.write_decimal-requires

@@ -1,5 +1,4 @@
 use Rattle.facts_numbers.proofs.Arms.{gathered_is}
-use borrow.Author.Rules.{rules}
 use Rattle.facts_numbers.proofs.amended_numbers.Goals as goal
 
 pub returns : goal.returns

@@ -1,5 +1,4 @@
 use Rattle.facts_numbers.proofs.Arms.{arms}
-use borrow.Author.Rules.{rules}
 use Rattle.facts_numbers.proofs.numbers_of.Goals as goal
 
 pub returns-in-Silent : goal.returns-in-Silent

@@ -1,5 +1,4 @@
 use Rattle.facts_numbers.proofs.Arms.{parts}
-use borrow.Author.Rules.{rules}
 use Rattle.facts_numbers.proofs.part_numbers.Goals as goal
 
 pub returns-in-Full : goal.returns-in-Full

@@ -1,5 +1,4 @@
 use Rattle.facts_numbers.proofs.Arms.{trade_is}
-use borrow.Author.Rules.{rules}
 use Rattle.facts_numbers.proofs.trade_numbers.Goals as goal
 
 pub returns : goal.returns

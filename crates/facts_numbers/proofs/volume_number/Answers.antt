@@ -1,5 +1,4 @@
 use Rattle.facts_numbers.proofs.Arms.{parts}
-use borrow.Author.Rules.{rules}
 use Rattle.facts_numbers.proofs.volume_number.Goals as goal
 
 pub returns-in-Shown : goal.returns-in-Shown

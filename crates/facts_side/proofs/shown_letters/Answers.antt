@@ -1,5 +1,4 @@
 use Rattle.facts_side.proofs.Sets.{letters_shown}
-use borrow.Author.Rules.{rules}
 use Rattle.facts_side.proofs.shown_letters.Goals as goal
 
 pub returns : goal.returns

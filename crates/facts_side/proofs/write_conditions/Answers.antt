@@ -1,6 +1,5 @@
 use Rattle.text.proofs.Writing.{rooms, then}
 use Rattle.facts_side.specs.Sides.{conditions_text}
-use borrow.Author.Rules.{rules}
 use Rattle.facts_side.proofs.write_conditions.Goals as goal
 
 pub write_set_and_days-i-requires : goal.write_set_and_days-i-requires

@@ -1,6 +1,5 @@
 use Rattle.text.proofs.Writing.{rooms, then}
 use Rattle.facts_side.specs.Sides.{full_text}
-use borrow.Author.Rules.{rules}
 use Rattle.facts_side.proofs.write_full.Goals as goal
 
 pub write_priced-i-requires : goal.write_priced-i-requires

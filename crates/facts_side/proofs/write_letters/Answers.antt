@@ -1,6 +1,5 @@
 use Rattle.text.proofs.Writing.{rooms, then}
 use Rattle.facts_side.specs.Sides.{letters_text}
-use borrow.Author.Rules.{rules}
 use Rattle.facts_side.proofs.write_letters.Goals as goal
 
 pub write_sequence-a-requires : goal.write_sequence-a-requires

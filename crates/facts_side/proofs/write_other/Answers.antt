@@ -1,6 +1,5 @@
 use Rattle.text.proofs.Writing.{rooms, then}
 use Rattle.facts_side.specs.Sides.{other_letters}
-use borrow.Author.Rules.{rules}
 use Rattle.facts_side.proofs.write_other.Goals as goal
 
 pub write_optional-a-requires : goal.write_optional-a-requires

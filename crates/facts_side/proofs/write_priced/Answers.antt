@@ -1,6 +1,5 @@
 use Rattle.text.proofs.Writing.{rooms, then}
 use Rattle.facts_side.specs.Sides.{priced_text}
-use borrow.Author.Rules.{rules}
 use Rattle.facts_side.proofs.write_priced.Goals as goal
 
 pub write_bytes-i-requires : goal.write_bytes-i-requires

@@ -1,5 +1,4 @@
 use Rattle.facts_side.proofs.Sets.{sets}
-use borrow.Author.Rules.{rules}
 use Rattle.facts_side.proofs.write_set.Goals as goal
 
 pub write_letters-n-requires : goal.write_letters-n-requires

@@ -1,7 +1,6 @@
 use mathlib.Core.List.{[]}
 use Rattle.feed_step.proofs.Steps.{held_from, held_to, line_from, used_fits, stepped_as}
 use Rattle.facts_block.specs.Shows.{facts_program}
-use borrow.Author.Rules.{rules}
 use Rattle.facts_step.proofs.step.Goals as goal
 
 pub slice_bounds-way_of-count : goal.slice_bounds-way_of-count

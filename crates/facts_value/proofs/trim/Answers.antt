@@ -1,6 +1,3 @@
-use mathlib.Core.Path.{◌≡◌}
-use borrow.Author.Rules.{rules}
-use Rattle.facts_value.specs.Values.{trimmed}
 use Rattle.facts_value.proofs.Trims.{trims}
 use Rattle.facts_value.proofs.trim.Goals as goal
 

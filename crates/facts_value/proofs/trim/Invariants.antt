@@ -1,8 +1,6 @@
 -- The loop's invariant: what is left of the digits is the fraction's text. Assumes nothing.
 use mathlib.Core.Path.{◌≡◌}
-use borrow.Author.Rules.{rules}
 use Rattle.facts_value.specs.Values.{trimmed}
-use Rattle.facts_value.proofs.Trims.{trims}
 use Rattle.facts_value.proofs.trim.Given as goal
 
 abbrev pub invariant-loop-k : goal.invariant-loop-k

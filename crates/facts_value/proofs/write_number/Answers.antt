@@ -1,6 +1,5 @@
 use Rattle.text.proofs.Writing.{choices}
 use Rattle.facts_value.specs.Values.{number_text}
-use borrow.Author.Rules.{rules}
 use Rattle.facts_value.proofs.write_number.Goals as goal
 
 pub write_bytes-requires : goal.write_bytes-requires

@@ -1,7 +1,6 @@
 use Rattle.facts_value.proofs.Trims.{point_room}
 use Rattle.text.proofs.Writing.{choices, rooms, then}
 use Rattle.facts_value.specs.Values.{point_text}
-use borrow.Author.Rules.{rules}
 use Rattle.facts_value.proofs.write_point.Goals as goal
 
 pub returns-then-f-eq0 : goal.returns-then-f-eq0

@@ -1,5 +1,4 @@
 use Rattle.facts_value.proofs.Trims.{trimmed_room, trimmed_written}
-use borrow.Author.Rules.{rules}
 use Rattle.facts_value.proofs.write_trimmed.Goals as goal
 
 pub write_places-requires : goal.write_places-requires

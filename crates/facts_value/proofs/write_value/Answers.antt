@@ -1,6 +1,5 @@
 use Rattle.text.proofs.Writing.{rooms, then}
 use Rattle.facts_value.specs.Values.{value_text}
-use borrow.Author.Rules.{rules}
 use Rattle.facts_value.proofs.write_value.Goals as goal
 
 pub write_decimal-at-requires : goal.write_decimal-at-requires

@@ -1,6 +1,5 @@
 use Rattle.text.proofs.Writing.{choices}
 use Rattle.facts_value.specs.Values.{value_or_none}
-use borrow.Author.Rules.{rules}
 use Rattle.facts_value.proofs.write_value_or_none.Goals as goal
 
 pub write_bytes-requires : goal.write_bytes-requires

@@ -1,5 +1,4 @@
 use Rattle.feed_blocks.proofs.Scan.{ends_off, ends_on}
-use borrow.Author.Rules.{rules}
 use Rattle.feed_blocks.proofs.ends_at.Goals as goal
 
 pub returns-then-block-at : goal.returns-then-block-at

@@ -1,11 +1,5 @@
-use Prim.Native.Nat.{◌+◌, ◌-◌, ◌≤◌}
 use native.Mathlib.Omega.{arith}
-use mathlib.Core.Path.{◌≡◌, refl}
-use mathlib.Core.Logic.{⊎_elim}
-use Rattle.rules.specs.Sizes.{width}
-use Rattle.feed_blocks.specs.Lines.{line_end}
 use Rattle.feed_blocks.proofs.Scan.{near_start, near_seen, near_on, near_all}
-use borrow.Author.Rules.{rules}
 use Rattle.feed_blocks.proofs.feed_near.Goals as goal
 use Rattle.feed_blocks.proofs.feed_near.Goals.{else-block-from-eq10, then-block-from-eq10}
 

@@ -1,12 +1,8 @@
 -- The loop's invariant: as long as no line feed was seen, the line ends where it ended. Assumes nothing.
 use Prim.Native.Nat.{◌+◌, ◌-◌, ◌≤◌}
-use native.Mathlib.Omega.{arith}
-use mathlib.Core.Path.{◌≡◌, refl}
-use mathlib.Core.Logic.{⊎_elim}
+use mathlib.Core.Path.{◌≡◌}
 use Rattle.rules.specs.Sizes.{width}
 use Rattle.feed_blocks.specs.Lines.{line_end}
-use Rattle.feed_blocks.proofs.Scan.{near_start, near_seen, near_on, near_all}
-use borrow.Author.Rules.{rules}
 use Rattle.feed_blocks.proofs.feed_near.Given as goal
 
 abbrev pub invariant-loop-i : goal.invariant-loop-i

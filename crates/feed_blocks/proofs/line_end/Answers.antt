@@ -1,9 +1,4 @@
-use Prim.Native.Nat.{◌-◌}
-use mathlib.Core.Path.{◌≡◌, refl}
-use lib.ListN.{length}
-use Rattle.feed_blocks.specs.Lines.{line_end}
 use Rattle.feed_blocks.proofs.Scan.{end_here, end_on, end_past}
-use borrow.Author.Rules.{rules}
 use Rattle.feed_blocks.proofs.line_end.Goals as goal
 
 pub returns-then-block-i-eq10 : goal.returns-then-block-i-eq10

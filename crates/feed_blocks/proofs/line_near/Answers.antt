@@ -1,9 +1,5 @@
-use Prim.Native.Nat.{◌-◌}
-use mathlib.Core.Path.{◌≡◌, refl}
-use lib.ListN.{length}
-use Rattle.feed_blocks.specs.Lines.{line_end}
+use mathlib.Core.Path.{refl}
 use Rattle.feed_blocks.proofs.Scan.{near_step}
-use borrow.Author.Rules.{rules}
 use Rattle.feed_blocks.proofs.line_near.Goals as goal
 
 pub loop-i-init : goal.loop-i-init

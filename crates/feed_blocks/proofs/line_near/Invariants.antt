@@ -1,10 +1,8 @@
 -- The loop's invariant: the line's end from i on is that from the start. Assumes nothing.
 use Prim.Native.Nat.{◌-◌}
-use mathlib.Core.Path.{◌≡◌, refl}
+use mathlib.Core.Path.{◌≡◌}
 use lib.ListN.{length}
 use Rattle.feed_blocks.specs.Lines.{line_end}
-use Rattle.feed_blocks.proofs.Scan.{near_step}
-use borrow.Author.Rules.{rules}
 use Rattle.feed_blocks.proofs.line_near.Given as goal
 
 abbrev pub invariant-loop-i : goal.invariant-loop-i

@@ -1,11 +1,8 @@
 -- The loop's invariant: i bytes are moved, the others stand where they stood. Assumes nothing.
 use Prim.Native.Nat.{◌+◌, ◌-◌, ◌≤◌}
-use native.Mathlib.Numerals.{add-one}
-use mathlib.Core.Path.{◌≡◌, refl}
+use mathlib.Core.Path.{◌≡◌}
 use mathlib.Core.List.{◌++◌}
-use lib.ListN.{length, take, drop, length-set}
-use Rattle.feed_blocks.proofs.Scan.{move_on, moved}
-use borrow.Author.Rules.{rules}
+use lib.ListN.{length, take, drop}
 use Rattle.feed_blocks.proofs.move_front.Given as goal
 
 abbrev pub invariant-loop-j : goal.invariant-loop-j

@@ -1,6 +1,5 @@
 use Rattle.feed_step.proofs.Steps.{held_from, held_to, line_from, used_fits, stepped_as}
 use Rattle.feed_lines.specs.Feed.{day_program}
-use borrow.Author.Rules.{rules}
 use Rattle.feed_day.proofs.step.Goals as goal
 
 pub slice_bounds-way_of-count : goal.slice_bounds-way_of-count

@@ -1,5 +1,4 @@
 use Rattle.text.proofs.Tests.{bools}
-use borrow.Author.Rules.{rules}
 use Rattle.feed_gather.proofs.room_left.Goals as goal
 
 pub returns-then-out-f : goal.returns-then-out-f

@@ -1,5 +1,4 @@
 use Rattle.feed_input.proofs.Answers.{none_came, cast_fits, some_came}
-use borrow.Author.Rules.{rules}
 use Rattle.feed_input.proofs.came.Goals as goal
 
 pub returns-then-answer-lt0 : goal.returns-then-answer-lt0

@@ -1,5 +1,4 @@
 use Rattle.feed_input.proofs.Places.{goes_front, goes_still}
-use borrow.Author.Rules.{rules}
 use Rattle.feed_input.proofs.go_on.Goals as goal
 
 pub returns-then-reads : goal.returns-then-reads

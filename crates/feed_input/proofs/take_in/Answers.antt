@@ -1,5 +1,4 @@
 use Rattle.feed_input.proofs.Places.{not_asked, came_fits, was_asked}
-use borrow.Author.Rules.{rules}
 use Rattle.feed_input.proofs.take_in.Goals as goal
 
 pub returns-then-not-p : goal.returns-then-not-p

@@ -1,6 +1,5 @@
 use Rattle.text.proofs.Parts.{counted}
 use Rattle.feed_input.proofs.Places.{front_place, front_block}
-use borrow.Author.Rules.{rules}
 use Rattle.feed_input.proofs.to_front.Goals as goal
 
 pub slice_bounds-move_front-end-2 : goal.slice_bounds-move_front-end-2

@@ -1,6 +1,5 @@
 use Rattle.text.proofs.Tests.{picks}
 use Rattle.feed_lines.specs.Feed.{ends_line}
-use borrow.Author.Rules.{rules}
 use Rattle.feed_lines.proofs.ends_line.Goals as goal
 
 pub returns-then-last : goal.returns-then-last

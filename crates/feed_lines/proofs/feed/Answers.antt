@@ -1,7 +1,4 @@
-use Prim.Native.Nat.{◌-◌}
-use lib.ListN.{length}
-use Rattle.feed_gather.specs.Gather.{started, block_taken}
-use Rattle.feed_gather.proofs.Blocks.{from_to, here_err, here_number, Turn, turn_start, turn_less, turn_end, turn_stop, turn_on}
+use Rattle.feed_gather.proofs.Blocks.{from_to, here_err, here_number, turn_start, turn_less, turn_end, turn_stop, turn_on}
 use Rattle.feed_lines.specs.Feed.{day_program}
 use Rattle.feed_lines.proofs.Blocks.{turn_run, trades_none}
 use borrow.Author.Rules.{rules}

@@ -1,6 +1,5 @@
 use Rattle.feed_lines.proofs.Told.{told_fits}
 use Rattle.feed_lines.proofs.Steps.{tape_adds, told_adds, line_gone}
-use borrow.Author.Rules.{rules}
 use Rattle.feed_lines.proofs.feed_line.Goals as goal
 
 pub overflow_add-on_tape : goal.overflow_add-on_tape

@@ -1,7 +1,4 @@
-use Prim.Native.Nat.{◌-◌}
-use lib.ListN.{length}
-use Rattle.feed_lines.proofs.Runs.{Run, run_start, run_stop, line_in, next_adds, print_adds, number_adds, run_less, run_on}
-use borrow.Author.Rules.{rules}
+use Rattle.feed_lines.proofs.Runs.{run_start, run_stop, line_in, next_adds, print_adds, number_adds, run_less, run_on}
 use Rattle.feed_lines.proofs.feed_trades.Goals as goal
 
 pub loop-st-init : goal.loop-st-init

@@ -1,7 +1,6 @@
 use Prim.Native.Nat.{◌-◌}
 use lib.ListN.{length}
-use Rattle.feed_lines.proofs.Runs.{Run, run_start, run_stop, line_in, next_adds, print_adds, number_adds, run_less, run_on}
-use borrow.Author.Rules.{rules}
+use Rattle.feed_lines.proofs.Runs.{Run}
 use Rattle.feed_lines.proofs.feed_trades.Given as goal
 
 abbrev pub invariant-loop-st : goal.invariant-loop-st

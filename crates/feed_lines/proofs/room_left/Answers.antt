@@ -1,5 +1,4 @@
 use Rattle.feed_gather.proofs.Blocks.{room_is}
-use borrow.Author.Rules.{rules}
 use Rattle.feed_lines.specs.Feed.{day_program}
 use Rattle.feed_lines.proofs.room_left.Goals as goal
 

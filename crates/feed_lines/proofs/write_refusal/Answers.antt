@@ -1,6 +1,5 @@
 use Rattle.text.proofs.Writing.{then, rooms}
 use Rattle.feed_lines.specs.Refusals.{refusal_line}
-use borrow.Author.Rules.{rules}
 use Rattle.feed_lines.proofs.write_refusal.Goals as goal
 
 pub write_right-a-requires : goal.write_right-a-requires

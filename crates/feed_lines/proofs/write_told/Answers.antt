@@ -1,5 +1,4 @@
 use Rattle.feed_lines.proofs.Told.{told_none, told_line, told_room}
-use borrow.Author.Rules.{rules}
 use Rattle.feed_lines.proofs.write_told.Goals as goal
 
 pub write_refusal-requires : goal.write_refusal-requires

@@ -1,5 +1,4 @@
 use Rattle.feed_step.proofs.Ways.{overs}
-use borrow.Author.Rules.{rules}
 use Rattle.feed_step.proofs.is_over.Goals as goal
 
 pub returns-in-Lines : goal.returns-in-Lines

@@ -1,5 +1,4 @@
 use Rattle.feed_step.proofs.Ways.{passes}
-use borrow.Author.Rules.{rules}
 use Rattle.feed_step.proofs.passing_by.Goals as goal
 
 pub returns-then-used-gt0 : goal.returns-then-used-gt0

@@ -1,5 +1,4 @@
 use Rattle.feed_step.proofs.Ways.{settled}
-use borrow.Author.Rules.{rules}
 use Rattle.feed_step.proofs.settle.Goals as goal
 
 pub returns : goal.returns

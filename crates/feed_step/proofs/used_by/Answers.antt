@@ -1,5 +1,4 @@
 use Rattle.feed_step.proofs.Ways.{used}
-use borrow.Author.Rules.{rules}
 use Rattle.feed_step.proofs.used_by.Goals as goal
 
 pub returns-in-Lines : goal.returns-in-Lines

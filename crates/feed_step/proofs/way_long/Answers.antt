@@ -1,6 +1,5 @@
 use Rattle.text.proofs.Tests.{picks}
 use Rattle.feed_step.specs.Step.{long_way}
-use borrow.Author.Rules.{rules}
 use Rattle.feed_step.proofs.way_long.Goals as goal
 
 pub returns-then-end-n : goal.returns-then-end-n

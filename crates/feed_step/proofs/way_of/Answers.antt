@@ -1,5 +1,4 @@
 use Rattle.feed_step.proofs.Ways.{way_failed, way_past, way_passing, way_reading}
-use borrow.Author.Rules.{rules}
 use Rattle.feed_step.proofs.way_of.Goals as goal
 
 pub returns-then-p : goal.returns-then-p

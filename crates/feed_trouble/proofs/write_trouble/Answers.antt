@@ -1,6 +1,5 @@
 use Rattle.text.proofs.Writing.{rooms, then}
 use Rattle.feed_trouble.specs.Trouble.{trouble_text}
-use borrow.Author.Rules.{rules}
 use Rattle.feed_trouble.proofs.write_trouble.Goals as goal
 
 pub write_bytes-i-requires : goal.write_bytes-i-requires

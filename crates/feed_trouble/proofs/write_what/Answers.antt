@@ -1,6 +1,5 @@
 use Rattle.text.proofs.Writing.{choices}
 use Rattle.feed_trouble.specs.Trouble.{what_text}
-use borrow.Author.Rules.{rules}
 use Rattle.feed_trouble.proofs.write_what.Goals as goal
 
 pub write_bytes-requires : goal.write_bytes-requires

@@ -1,11 +1,6 @@
 use borrow.Author.Rules.{rules}
-use Prim.Native.Nat.{◌+◌, ◌-◌, ◌≤◌}
 use native.Mathlib.Omega.{arith}
-use mathlib.Core.Path.{◌≡◌, refl}
-use mathlib.Core.Bool.{◌&&◌}
-use lib.Dec.{eqb}
-use lib.ListN.{length, get_or, drop}
-use Rattle.line_columns.specs.Columns.{formed}
+use mathlib.Core.Path.{refl}
 use Rattle.line_columns.proofs.Numbers.{one_more, at_most_one_lem, all_formed}
 use Rattle.line_columns.proofs.is_formed.Goals as goal
 

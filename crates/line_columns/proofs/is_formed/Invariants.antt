@@ -1,13 +1,10 @@
 -- The loop's invariant: no bad column so far, and right ones from i on, is that all are right. Assumes nothing.
-use borrow.Author.Rules.{rules}
 use Prim.Native.Nat.{◌+◌, ◌-◌, ◌≤◌}
-use native.Mathlib.Omega.{arith}
-use mathlib.Core.Path.{◌≡◌, refl}
+use mathlib.Core.Path.{◌≡◌}
 use mathlib.Core.Bool.{◌&&◌}
 use lib.Dec.{eqb}
 use lib.ListN.{length, get_or, drop}
 use Rattle.line_columns.specs.Columns.{formed}
-use Rattle.line_columns.proofs.Numbers.{one_more, at_most_one_lem, all_formed}
 use Rattle.line_columns.proofs.is_formed.Given as goal
 
 abbrev pub invariant-loop-i : goal.invariant-loop-i

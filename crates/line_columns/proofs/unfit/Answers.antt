@@ -1,10 +1,8 @@
 -- Each test sets one value; `column_is` puts them together. Assumes nothing.
-use Prim.Native.Nat.{ℕ}
 use mathlib.Core.Path.{◌≡◌}
 use lib.Dec.{leb, ltb, eqb}
 use Rattle.text.specs.Pick.{pick}
 use Rattle.text.proofs.Tests.{picks}
-use Rattle.line_columns.specs.Columns.{fits}
 use Rattle.line_columns.proofs.Numbers.{column_is}
 use Rattle.line_columns.proofs.unfit.Goals as goal
 use Rattle.line_columns.proofs.unfit.Goals.{then-front-eq32, else-front-eq32, then-behind-eq32, else-behind-eq32, then-behind-eq32-2, else-behind-eq32-2, then-low-c, else-low-c, then-most-c, else-most-c}

@@ -1,9 +1,6 @@
 use borrow.Author.Rules.{rules}
-use Prim.Native.Nat.{◌+◌, ◌-◌, ◌*◌, ◌^◌, ◌≤◌}
 use native.Mathlib.Omega.{arith}
-use mathlib.Core.Path.{◌≡◌, refl}
-use lib.ListN.{length, drop}
-use Rattle.line_columns.specs.Columns.{worth_of}
+use mathlib.Core.Path.{refl}
 use Rattle.line_columns.proofs.Numbers.{worth_more, worth_all, worth_small, worth_grows}
 use Rattle.line_columns.proofs.worth.Goals as goal
 

@@ -1,11 +1,8 @@
 -- The loop's invariant: acc is worth the columns before i. Assumes nothing.
-use borrow.Author.Rules.{rules}
 use Prim.Native.Nat.{◌+◌, ◌-◌, ◌*◌, ◌^◌, ◌≤◌}
-use native.Mathlib.Omega.{arith}
-use mathlib.Core.Path.{◌≡◌, refl}
+use mathlib.Core.Path.{◌≡◌}
 use lib.ListN.{length, drop}
 use Rattle.line_columns.specs.Columns.{worth_of}
-use Rattle.line_columns.proofs.Numbers.{worth_more, worth_all, worth_small, worth_grows}
 use Rattle.line_columns.proofs.worth.Given as goal
 
 abbrev pub invariant-loop-i : goal.invariant-loop-i

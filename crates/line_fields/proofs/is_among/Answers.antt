@@ -1,8 +1,5 @@
 use borrow.Author.Rules.{rules}
-use Prim.Native.Nat.{ℕ, suc, ◌+◌, ◌-◌, ◌*◌, ◌^◌, ◌≤◌, ◌<◌}
-use mathlib.Core.Path.{◌≡◌, refl, sym, ap, ◌∙◌}
-use lib.ListN.{length, drop}
-use Rattle.text.specs.Pick.{among}
+use mathlib.Core.Path.{refl}
 use Rattle.line_fields.proofs.Texts.{among_yes, among_more, among_end}
 use Rattle.line_fields.proofs.is_among.Goals as goal
 

@@ -1,11 +1,5 @@
 use borrow.Author.Rules.{rules}
-use Prim.Native.Nat.{ℕ, suc, ◌+◌, ◌-◌, ◌≤◌, ◌<◌}
-use mathlib.Core.Path.{◌≡◌, refl}
-use mathlib.Core.Logic.{⊎_elim}
-use mathlib.Core.Bool.{◌&&◌}
-use lib.Dec.{eqb}
-use lib.ListN.{length, drop}
-use Rattle.rules.specs.Columns.{blank}
+use mathlib.Core.Path.{refl}
 use Rattle.line_fields.proofs.Texts.{mark_found, no_mark, blank_passed}
 use Rattle.line_fields.proofs.is_blank_part.Goals as goal
 use Rattle.line_fields.proofs.is_blank_part.Goals.{else-part-i-ne32, then-part-i-ne32}

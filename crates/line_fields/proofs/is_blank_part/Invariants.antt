@@ -1,13 +1,10 @@
 -- The loop's invariant: no mark so far, and blanks from i on, is that all are blanks. Assumes nothing.
-use borrow.Author.Rules.{rules}
-use Prim.Native.Nat.{ℕ, suc, ◌+◌, ◌-◌, ◌≤◌, ◌<◌}
-use mathlib.Core.Path.{◌≡◌, refl}
-use mathlib.Core.Logic.{⊎_elim}
+use Prim.Native.Nat.{◌-◌, ◌≤◌}
+use mathlib.Core.Path.{◌≡◌}
 use mathlib.Core.Bool.{◌&&◌}
 use lib.Dec.{eqb}
 use lib.ListN.{length, drop}
 use Rattle.rules.specs.Columns.{blank}
-use Rattle.line_fields.proofs.Texts.{mark_found, no_mark, blank_passed}
 use Rattle.line_fields.proofs.is_blank_part.Given as goal
 
 abbrev pub invariant-loop-i : goal.invariant-loop-i

@@ -1,5 +1,4 @@
 use Rattle.line_fields.proofs.Texts.{first_marked, second_marked, third_told}
-use borrow.Author.Rules.{rules}
 use Rattle.line_fields.proofs.is_blank_rest.Goals as goal
 
 pub returns-then-not-is_blank_part : goal.returns-then-not-is_blank_part

@@ -1,12 +1,5 @@
 use borrow.Author.Rules.{rules}
-use Prim.Native.Nat.{ℕ, suc, ◌+◌, ◌-◌, ◌≤◌, ◌<◌}
-use mathlib.Core.Path.{◌≡◌, refl}
-use mathlib.Core.Logic.{⊎_elim}
-use mathlib.Core.Bool.{◌&&◌}
-use lib.Dec.{eqb}
-use lib.ListN.{length, drop}
-use Rattle.text.specs.Pick.{all}
-use Rattle.rules.specs.Line.{is_printable}
+use mathlib.Core.Path.{refl}
 use Rattle.line_fields.proofs.Texts.{told_found, told_none, passed}
 use Rattle.line_fields.proofs.is_printable_text.Goals as goal
 use Rattle.line_fields.proofs.is_printable_text.Goals.{else-not-is_printable, then-not-is_printable}

@@ -1,14 +1,11 @@
 -- The loop's invariant: none found so far, and those from i on pass, is that all pass. Assumes nothing.
-use borrow.Author.Rules.{rules}
-use Prim.Native.Nat.{ℕ, suc, ◌+◌, ◌-◌, ◌≤◌, ◌<◌}
-use mathlib.Core.Path.{◌≡◌, refl}
-use mathlib.Core.Logic.{⊎_elim}
+use Prim.Native.Nat.{◌-◌, ◌≤◌}
+use mathlib.Core.Path.{◌≡◌}
 use mathlib.Core.Bool.{◌&&◌}
 use lib.Dec.{eqb}
 use lib.ListN.{length, drop}
 use Rattle.text.specs.Pick.{all}
 use Rattle.rules.specs.Line.{is_printable}
-use Rattle.line_fields.proofs.Texts.{told_found, told_none, passed}
 use Rattle.line_fields.proofs.is_printable_text.Given as goal
 
 abbrev pub invariant-loop-i : goal.invariant-loop-i

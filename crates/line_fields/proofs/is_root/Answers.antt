@@ -1,7 +1,6 @@
 use Rattle.text.proofs.Told.{told}
 use Rattle.rules.specs.Columns.{is_root}
 use Rattle.line_fields.proofs.Texts.{root_last}
-use borrow.Author.Rules.{rules}
 use Rattle.line_fields.proofs.is_root.Goals as goal
 
 pub returns-then-not-is_letter : goal.returns-then-not-is_letter

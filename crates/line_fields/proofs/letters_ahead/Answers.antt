@@ -1,9 +1,5 @@
 use borrow.Author.Rules.{rules}
-use Prim.Native.Nat.{ℕ, suc, ◌+◌, ◌-◌, ◌*◌, ◌^◌, ◌≤◌, ◌<◌}
-use mathlib.Core.Path.{◌≡◌, refl, sym, ap, ◌∙◌}
-use lib.ListN.{length, drop}
-use Rattle.text.specs.Reading.{span}
-use Rattle.rules.specs.Tape.{is_letter}
+use mathlib.Core.Path.{refl}
 use Rattle.line_fields.proofs.Texts.{span_stop, span_more, span_end}
 use Rattle.line_fields.proofs.letters_ahead.Goals as goal
 

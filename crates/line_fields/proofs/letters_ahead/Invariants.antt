@@ -1,11 +1,9 @@
 -- The loop's invariant: letters stand before i. Assumes nothing.
-use borrow.Author.Rules.{rules}
-use Prim.Native.Nat.{ℕ, suc, ◌+◌, ◌-◌, ◌*◌, ◌^◌, ◌≤◌, ◌<◌}
-use mathlib.Core.Path.{◌≡◌, refl, sym, ap, ◌∙◌}
+use Prim.Native.Nat.{◌-◌, ◌≤◌}
+use mathlib.Core.Path.{◌≡◌}
 use lib.ListN.{length, drop}
 use Rattle.text.specs.Reading.{span}
 use Rattle.rules.specs.Tape.{is_letter}
-use Rattle.line_fields.proofs.Texts.{span_stop, span_more, span_end}
 use Rattle.line_fields.proofs.letters_ahead.Given as goal
 
 abbrev pub invariant-loop-i : goal.invariant-loop-i

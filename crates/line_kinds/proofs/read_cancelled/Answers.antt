@@ -1,5 +1,4 @@
 use Rattle.line_kinds.proofs.Days.{cancelled}
-use borrow.Author.Rules.{rules}
 use Rattle.line_kinds.proofs.read_cancelled.Goals as goal
 
 pub returns : goal.returns

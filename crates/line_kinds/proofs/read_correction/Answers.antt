@@ -1,5 +1,4 @@
 use Rattle.line_kinds.proofs.Days.{correction_read}
-use borrow.Author.Rules.{rules}
 use Rattle.line_kinds.proofs.read_correction.Goals as goal
 
 pub returns : goal.returns

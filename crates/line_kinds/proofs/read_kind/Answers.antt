@@ -1,6 +1,5 @@
 use Rattle.line_side.proofs.Flags.{flags}
 use Rattle.rules.specs.Line.{of_kind}
-use borrow.Author.Rules.{rules}
 use Rattle.line_kinds.proofs.read_kind.Goals as goal
 
 pub returns-then-kind-eq68 : goal.returns-then-kind-eq68

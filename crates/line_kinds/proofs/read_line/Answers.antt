@@ -2,7 +2,6 @@ use Rattle.line_side.proofs.Flags.{refusals}
 use Rattle.line_kinds.proofs.Days.{parsed}
 use Rattle.rules.specs.Line.{is_shaped}
 use Rattle.line_kinds.specs.Fields.{reading_of}
-use borrow.Author.Rules.{rules}
 use Rattle.line_kinds.proofs.read_line.Goals as goal
 
 pub returns-then-line-ne-WIDTH : goal.returns-then-line-ne-WIDTH

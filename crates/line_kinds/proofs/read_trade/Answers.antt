@@ -1,5 +1,4 @@
 use Rattle.line_kinds.proofs.Days.{trade_read_lem}
-use borrow.Author.Rules.{rules}
 use Rattle.line_kinds.proofs.read_trade.Goals as goal
 
 pub returns : goal.returns

@@ -1,5 +1,4 @@
 use Rattle.line_kinds.proofs.Days.{traded}
-use borrow.Author.Rules.{rules}
 use Rattle.line_kinds.proofs.read_traded.Goals as goal
 
 pub returns : goal.returns

@@ -1,6 +1,5 @@
 use Rattle.line_side.proofs.Flags.{flags}
 use Rattle.line_kinds.specs.Fields.{trade_formed_by}
-use borrow.Author.Rules.{rules}
 use Rattle.line_kinds.proofs.trade_formed.Goals as goal
 
 pub returns-then-not-is_number : goal.returns-then-not-is_number

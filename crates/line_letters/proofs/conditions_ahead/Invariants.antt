@@ -1,11 +1,9 @@
 -- The loop's invariant: condition letters stand before i. Assumes nothing.
-use borrow.Author.Rules.{rules}
-use Prim.Native.Nat.{ℕ, suc, ◌+◌, ◌-◌, ◌*◌, ◌^◌, ◌≤◌, ◌<◌}
-use mathlib.Core.Path.{◌≡◌, refl, sym, ap, ◌∙◌}
+use Prim.Native.Nat.{◌-◌, ◌≤◌}
+use mathlib.Core.Path.{◌≡◌}
 use lib.ListN.{length, drop}
 use Rattle.text.specs.Reading.{span}
 use Rattle.rules.specs.Conditions.{is_condition}
-use Rattle.line_fields.proofs.Texts.{span_stop, span_more, span_end}
 use Rattle.line_letters.proofs.conditions_ahead.Given as goal
 
 abbrev pub invariant-loop-i : goal.invariant-loop-i

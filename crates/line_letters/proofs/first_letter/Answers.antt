@@ -1,5 +1,4 @@
 use Rattle.line_letters.proofs.Letters.{no_letters_lem, only_letters}
-use borrow.Author.Rules.{rules}
 use Rattle.line_letters.proofs.first_letter.Goals as goal
 
 pub returns-then-field-eq32 : goal.returns-then-field-eq32

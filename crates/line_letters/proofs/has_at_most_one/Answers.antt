@@ -1,9 +1,5 @@
 use borrow.Author.Rules.{rules}
-use Prim.Native.Nat.{ℕ, suc, ◌+◌, ◌-◌, ◌*◌, ◌^◌, ◌≤◌, ◌<◌}
-use mathlib.Core.Path.{◌≡◌, refl, sym, ap, ◌∙◌}
-use lib.ListN.{length, drop}
-use Rattle.rules.specs.Columns.{word}
-use Rattle.rules.specs.Conditions.{at_most_one}
+use mathlib.Core.Path.{refl}
 use Rattle.line_letters.proofs.Letters.{most_stop, most_one, most_more, most_end}
 use Rattle.line_letters.proofs.has_at_most_one.Goals as goal
 

@@ -1,11 +1,9 @@
 -- The loop's invariant: no letter of the group stands before i. Assumes nothing.
-use borrow.Author.Rules.{rules}
-use Prim.Native.Nat.{ℕ, suc, ◌+◌, ◌-◌, ◌*◌, ◌^◌, ◌≤◌, ◌<◌}
-use mathlib.Core.Path.{◌≡◌, refl, sym, ap, ◌∙◌}
+use Prim.Native.Nat.{◌-◌, ◌≤◌}
+use mathlib.Core.Path.{◌≡◌}
 use lib.ListN.{length, drop}
 use Rattle.rules.specs.Columns.{word}
 use Rattle.rules.specs.Conditions.{at_most_one}
-use Rattle.line_letters.proofs.Letters.{most_stop, most_one, most_more, most_end}
 use Rattle.line_letters.proofs.has_at_most_one.Given as goal
 
 abbrev pub invariant-loop-i : goal.invariant-loop-i

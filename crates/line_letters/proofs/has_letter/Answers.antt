@@ -1,9 +1,5 @@
 use borrow.Author.Rules.{rules}
-use Prim.Native.Nat.{ℕ, suc, ◌+◌, ◌-◌, ◌*◌, ◌^◌, ◌≤◌, ◌<◌}
-use mathlib.Core.Path.{◌≡◌, refl, sym, ap, ◌∙◌}
-use lib.ListN.{length, drop}
-use Rattle.text.specs.Pick.{among}
-use Rattle.rules.specs.Columns.{word}
+use mathlib.Core.Path.{refl}
 use Rattle.line_letters.proofs.Letters.{has_stop, has_yes, has_more, has_end}
 use Rattle.line_letters.proofs.has_letter.Goals as goal
 

@@ -1,9 +1,5 @@
 use borrow.Author.Rules.{rules}
-use Prim.Native.Nat.{ℕ, suc, ◌+◌, ◌-◌, ◌*◌, ◌^◌, ◌≤◌, ◌<◌}
-use mathlib.Core.Path.{◌≡◌, refl, sym, ap, ◌∙◌}
-use lib.ListN.{length, drop}
-use Rattle.rules.specs.Columns.{word}
-use Rattle.rules.specs.Conditions.{none_of}
+use mathlib.Core.Path.{refl}
 use Rattle.line_letters.proofs.Letters.{none_stop, none_no, none_more, none_end}
 use Rattle.line_letters.proofs.has_none_of.Goals as goal
 

@@ -1,9 +1,5 @@
 use borrow.Author.Rules.{rules}
-use Prim.Native.Nat.{ℕ, suc, ◌+◌, ◌-◌, ◌*◌, ◌^◌, ◌≤◌, ◌<◌}
-use mathlib.Core.Path.{◌≡◌, refl, sym, ap, ◌∙◌}
-use lib.ListN.{length, drop}
-use Rattle.rules.specs.Columns.{word}
-use Rattle.rules.specs.Conditions.{unrepeated}
+use mathlib.Core.Path.{refl}
 use Rattle.line_letters.proofs.Letters.{unrepeated_stop, unrepeated_no, unrepeated_more, unrepeated_end}
 use Rattle.line_letters.proofs.is_unrepeated.Goals as goal
 

@@ -1,11 +1,9 @@
 -- The loop's invariant: the letters before i are not repeated. Assumes nothing.
-use borrow.Author.Rules.{rules}
-use Prim.Native.Nat.{ℕ, suc, ◌+◌, ◌-◌, ◌*◌, ◌^◌, ◌≤◌, ◌<◌}
-use mathlib.Core.Path.{◌≡◌, refl, sym, ap, ◌∙◌}
+use Prim.Native.Nat.{◌-◌, ◌≤◌}
+use mathlib.Core.Path.{◌≡◌}
 use lib.ListN.{length, drop}
 use Rattle.rules.specs.Columns.{word}
 use Rattle.rules.specs.Conditions.{unrepeated}
-use Rattle.line_letters.proofs.Letters.{unrepeated_stop, unrepeated_no, unrepeated_more, unrepeated_end}
 use Rattle.line_letters.proofs.is_unrepeated.Given as goal
 
 abbrev pub invariant-loop-i : goal.invariant-loop-i

@@ -1,7 +1,6 @@
 use Rattle.text.proofs.Told.{told}
 use Rattle.rules.specs.Conditions.{lawful_letters}
 use Rattle.line_letters.proofs.Letters.{lawful_none, lawful_one}
-use borrow.Author.Rules.{rules}
 use Rattle.line_letters.proofs.lawful_letters.Goals as goal
 
 pub returns-then-field-eq32 : goal.returns-then-field-eq32

@@ -1,7 +1,6 @@
 use Rattle.rules.specs.Conditions.{letters_formed}
 use Rattle.line_fields.proofs.Texts.{filled_by}
 use Rattle.line_letters.proofs.Formed.{first_in, formed_none, formed_one}
-use borrow.Author.Rules.{rules}
 use Rattle.line_letters.proofs.letters_formed.Goals as goal
 
 pub bounds-field-0 : goal.bounds-field-0

@@ -1,5 +1,4 @@
 use Rattle.line_letters.proofs.Letters.{no_letters_lem, each_letter}
-use borrow.Author.Rules.{rules}
 use Rattle.line_letters.proofs.letters_in.Goals as goal
 
 pub returns-then-field-eq32-2 : goal.returns-then-field-eq32-2

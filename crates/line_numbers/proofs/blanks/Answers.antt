@@ -1,8 +1,5 @@
 use borrow.Author.Rules.{rules}
-use Prim.Native.Nat.{ℕ, suc, ◌+◌, ◌-◌, ◌*◌, ◌^◌, ◌≤◌, ◌<◌}
-use mathlib.Core.Path.{◌≡◌, refl, sym, ap, ◌∙◌}
-use lib.ListN.{length, drop}
-use Rattle.rules.specs.Columns.{justified}
+use mathlib.Core.Path.{refl}
 use Rattle.line_numbers.proofs.Numbers.{blank_more, blank_no, blank_end}
 use Rattle.line_numbers.proofs.blanks.Goals as goal
 

@@ -1,6 +1,5 @@
 use Rattle.text.proofs.Told.{told}
 use Rattle.rules.specs.Columns.{days_in}
-use borrow.Author.Rules.{rules}
 use Rattle.line_numbers.proofs.days_in.Goals as goal
 
 pub returns-then-is_leap : goal.returns-then-is_leap

@@ -1,9 +1,6 @@
 use borrow.Author.Rules.{rules}
-use Prim.Native.Nat.{ℕ, suc, ◌+◌, ◌-◌, ◌*◌, ◌^◌, ◌≤◌, ◌<◌}
 use native.Mathlib.Omega.{arith}
-use mathlib.Core.Path.{◌≡◌, refl, sym, ap, ◌∙◌}
-use lib.ListN.{length, drop}
-use Rattle.rules.specs.Columns.{digits_from}
+use mathlib.Core.Path.{refl}
 use Rattle.line_numbers.proofs.Numbers.{low, high, digit, last, small, grows}
 use Rattle.line_numbers.proofs.digits.Goals as goal
 

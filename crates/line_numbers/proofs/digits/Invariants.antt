@@ -1,11 +1,8 @@
 -- The loop's invariant: acc is worth the digits before i. Assumes nothing.
-use borrow.Author.Rules.{rules}
-use Prim.Native.Nat.{ℕ, suc, ◌+◌, ◌-◌, ◌*◌, ◌^◌, ◌≤◌, ◌<◌}
-use native.Mathlib.Omega.{arith}
-use mathlib.Core.Path.{◌≡◌, refl, sym, ap, ◌∙◌}
+use Prim.Native.Nat.{◌-◌, ◌^◌, ◌≤◌, ◌<◌}
+use mathlib.Core.Path.{◌≡◌}
 use lib.ListN.{length, drop}
 use Rattle.rules.specs.Columns.{digits_from}
-use Rattle.line_numbers.proofs.Numbers.{low, high, digit, last, small, grows}
 use Rattle.line_numbers.proofs.digits.Given as goal
 
 abbrev pub invariant-loop-i : goal.invariant-loop-i

@@ -1,7 +1,6 @@
 use Rattle.text.proofs.Told.{told}
 use Rattle.rules.specs.Columns.{is_date}
 use Rattle.line_numbers.proofs.Numbers.{date_last}
-use borrow.Author.Rules.{rules}
 use Rattle.line_numbers.proofs.is_date.Goals as goal
 
 pub returns-then-n-lt10000101 : goal.returns-then-n-lt10000101

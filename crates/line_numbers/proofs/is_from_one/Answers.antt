@@ -1,5 +1,4 @@
 use Rattle.rules.specs.Columns.{passes}
-use borrow.Author.Rules.{rules}
 use Rattle.line_numbers.proofs.is_from_one.Goals as goal
 
 pub returns-in-Blank : goal.returns-in-Blank

@@ -1,5 +1,4 @@
 use Rattle.rules.specs.Columns.{number_or_blank}
-use borrow.Author.Rules.{rules}
 use Rattle.line_numbers.proofs.is_number_or_blank.Goals as goal
 
 pub returns-in-Blank : goal.returns-in-Blank

@@ -1,5 +1,4 @@
 use Rattle.rules.specs.Line.{previous_ranged}
-use borrow.Author.Rules.{rules}
 use Rattle.line_numbers.proofs.is_previous_ranged.Goals as goal
 
 pub returns-in-Blank : goal.returns-in-Blank

@@ -1,7 +1,6 @@
 use Rattle.text.proofs.Told.{told}
 use Rattle.rules.specs.Line.{is_price}
 use Rattle.line_numbers.proofs.Numbers.{price_fits, price_last}
-use borrow.Author.Rules.{rules}
 use Rattle.line_numbers.proofs.is_price.Goals as goal
 
 pub returns-then-n-lt1 : goal.returns-then-n-lt1

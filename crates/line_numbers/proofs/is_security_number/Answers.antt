@@ -1,4 +1,3 @@
-use Rattle.text.proofs.Told.{told}
 use Rattle.rules.specs.Line.{is_security_number}
 use borrow.Author.Rules.{rules}
 use Rattle.line_numbers.proofs.is_security_number.Goals as goal

@@ -1,5 +1,4 @@
 use Rattle.line_numbers.proofs.Numbers.{field_blank, field_zero, field_bad, field_digits}
-use borrow.Author.Rules.{rules}
 use Rattle.line_numbers.proofs.read_number.Goals as goal
 
 pub returns-then-field-at : goal.returns-then-field-at

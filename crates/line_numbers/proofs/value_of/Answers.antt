@@ -1,5 +1,4 @@
 use Rattle.rules.specs.Columns.{value_of}
-use borrow.Author.Rules.{rules}
 use Rattle.line_numbers.proofs.value_of.Goals as goal
 
 pub returns-in-Blank : goal.returns-in-Blank

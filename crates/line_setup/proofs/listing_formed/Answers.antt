@@ -1,6 +1,5 @@
 use Rattle.line_side.proofs.Flags.{rows}
 use Rattle.line_setup.specs.Setup.{listing_formed_by}
-use borrow.Author.Rules.{rules}
 use Rattle.line_setup.proofs.listing_formed.Goals as goal
 
 pub returns-then-not-is_number : goal.returns-then-not-is_number

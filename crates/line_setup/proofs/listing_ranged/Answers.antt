@@ -1,6 +1,5 @@
 use Rattle.line_side.proofs.Flags.{flags}
 use Rattle.line_setup.specs.Setup.{listing_ranged_by}
-use borrow.Author.Rules.{rules}
 use Rattle.line_setup.proofs.listing_ranged.Goals as goal
 
 pub returns-then-not-is_security_number : goal.returns-then-not-is_security_number

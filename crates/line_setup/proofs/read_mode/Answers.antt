@@ -1,5 +1,4 @@
 use Rattle.line_setup.proofs.Setup.{mode_read_lem}
-use borrow.Author.Rules.{rules}
 use Rattle.line_setup.proofs.read_mode.Goals as goal
 
 pub returns : goal.returns

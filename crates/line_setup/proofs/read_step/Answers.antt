@@ -1,5 +1,4 @@
 use Rattle.line_setup.proofs.Setup.{step_read_lem}
-use borrow.Author.Rules.{rules}
 use Rattle.line_setup.proofs.read_step.Goals as goal
 
 pub returns : goal.returns

@@ -1,7 +1,6 @@
 use Rattle.text.specs.Pick.{pick}
 use Rattle.line_columns.specs.Columns.{begins, placed}
 use Rattle.line_side.proofs.Amounts.{tabled, amounts_no, amounts_yes}
-use borrow.Author.Rules.{rules}
 use Rattle.line_side.proofs.amounts_stand.Goals as goal
 
 pub returns-then-part-ne32 : goal.returns-then-part-ne32

@@ -1,5 +1,4 @@
 use Rattle.line_side.proofs.Amounts.{end_marked, end_told}
-use borrow.Author.Rules.{rules}
 use Rattle.line_side.proofs.is_blank_end.Goals as goal
 
 pub returns-then-not-is_blank_part : goal.returns-then-not-is_blank_part

@@ -1,6 +1,5 @@
 use Rattle.line_side.proofs.Flags.{flags, without}
 use Rattle.rules.specs.Line.{alike}
-use borrow.Author.Rules.{rules}
 use Rattle.line_side.proofs.is_given_with.Goals as goal
 
 pub returns-then-letter : goal.returns-then-letter

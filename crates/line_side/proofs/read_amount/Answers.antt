@@ -1,5 +1,4 @@
 use Rattle.line_side.proofs.Amounts.{amount_is}
-use borrow.Author.Rules.{rules}
 use Rattle.line_side.proofs.read_amount.Goals as goal
 
 pub returns-then-n-ge1 : goal.returns-then-n-ge1

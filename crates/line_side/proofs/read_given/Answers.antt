@@ -1,5 +1,4 @@
 use Rattle.line_side.proofs.Amounts.{given_none}
-use borrow.Author.Rules.{rules}
 use Rattle.line_side.proofs.read_given.Goals as goal
 
 pub returns-then-none : goal.returns-then-none

@@ -1,5 +1,4 @@
 use Rattle.line_side.proofs.Sides.{letters_read_lem}
-use borrow.Author.Rules.{rules}
 use Rattle.line_side.proofs.read_letters.Goals as goal
 
 pub returns : goal.returns

@@ -1,5 +1,4 @@
 use Rattle.line_side.proofs.Sides.{side_read_lem}
-use borrow.Author.Rules.{rules}
 use Rattle.line_side.proofs.read_side.Goals as goal
 
 pub returns : goal.returns

@@ -1,6 +1,5 @@
 use Rattle.line_side.proofs.Flags.{rows}
 use Rattle.rules.specs.Line.{formed_by}
-use borrow.Author.Rules.{rules}
 use Rattle.line_side.proofs.side_formed.Goals as goal
 
 pub returns-then-not-is_number : goal.returns-then-not-is_number

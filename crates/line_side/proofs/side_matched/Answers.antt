@@ -1,6 +1,5 @@
 use Rattle.line_side.proofs.Flags.{flags}
 use Rattle.rules.specs.Line.{matched_by}
-use borrow.Author.Rules.{rules}
 use Rattle.line_side.proofs.side_matched.Goals as goal
 
 pub returns-then-not-is_given_with : goal.returns-then-not-is_given_with

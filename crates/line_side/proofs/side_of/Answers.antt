@@ -1,5 +1,4 @@
 use Rattle.line_side.proofs.Sides.{side_value}
-use borrow.Author.Rules.{rules}
 use Rattle.line_side.proofs.side_of.Goals as goal
 
 pub returns : goal.returns

@@ -1,6 +1,5 @@
 use Rattle.line_side.proofs.Flags.{flags, values}
 use Rattle.rules.specs.Line.{ranged_by}
-use borrow.Author.Rules.{rules}
 use Rattle.line_side.proofs.side_ranged.Goals as goal
 
 pub returns-then-value_of-lt1 : goal.returns-then-value_of-lt1

@@ -1,7 +1,6 @@
 use Rattle.text.specs.Pick.{pick}
 use Rattle.line_columns.specs.Columns.{begins, placed}
 use Rattle.line_trade.proofs.Fields.{tabled, not_placed, all_placed}
-use borrow.Author.Rules.{rules}
 use Rattle.line_trade.proofs.is_placed.Goals as goal
 
 pub returns-then-not-is_formed : goal.returns-then-not-is_formed

@@ -1,5 +1,4 @@
 use Rattle.line_trade.proofs.Fields.{not_short, short_by}
-use borrow.Author.Rules.{rules}
 use Rattle.line_trade.proofs.is_short.Goals as goal
 
 pub returns-then-field-ne32 : goal.returns-then-field-ne32

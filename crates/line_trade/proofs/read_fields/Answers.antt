@@ -1,5 +1,4 @@
 use Rattle.line_trade.proofs.Lines.{stopped, all_passed}
-use borrow.Author.Rules.{rules}
 use Rattle.line_trade.proofs.read_fields.Goals as goal
 
 pub returns-then-not-is_printable_text : goal.returns-then-not-is_printable_text

@@ -1,5 +1,4 @@
 use Rattle.line_trade.proofs.Lines.{stopped, quick_good}
-use borrow.Author.Rules.{rules}
 use Rattle.line_trade.proofs.read_trade_line.Goals as goal
 
 pub returns-then-line-ne-WIDTH : goal.returns-then-line-ne-WIDTH

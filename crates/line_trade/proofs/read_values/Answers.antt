@@ -1,5 +1,4 @@
 use Rattle.line_trade.proofs.Fields.{no_values, values_read}
-use borrow.Author.Rules.{rules}
 use Rattle.line_trade.proofs.read_values.Goals as goal
 
 pub returns-then-c-lt48 : goal.returns-then-c-lt48

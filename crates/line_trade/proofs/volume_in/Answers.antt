@@ -1,5 +1,4 @@
 use Rattle.line_trade.proofs.Worth.{volume_behind}
-use borrow.Author.Rules.{rules}
 use Rattle.line_trade.proofs.volume_in.Goals as goal
 
 pub returns-then-line-eq32 : goal.returns-then-line-eq32

@@ -1,6 +1,5 @@
 use Rattle.name_words.proofs.Fields.{word_cut}
 use Rattle.name_suffix.proofs.Lawful.{unjustified, left_blank, listed_text}
-use borrow.Author.Rules.{rules}
 use Rattle.name_suffix.proofs.has_lawful_suffix.Goals as goal
 
 pub returns-then-n-eq0 : goal.returns-then-n-eq0

@@ -1,6 +1,5 @@
 use Rattle.name_words.proofs.Fields.{word_cut}
 use Rattle.name_suffix.proofs.Lawful.{reserved_word}
-use borrow.Author.Rules.{rules}
 use Rattle.name_suffix.proofs.has_reserved_root.Goals as goal
 
 pub slice_bounds-is_reserved-end : goal.slice_bounds-is_reserved-end

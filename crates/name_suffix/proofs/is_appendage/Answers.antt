@@ -1,6 +1,5 @@
 use Rattle.name_suffix.proofs.Lawful.{answers}
 use Rattle.rules.specs.Names.{is_appendage}
-use borrow.Author.Rules.{rules}
 use Rattle.name_suffix.proofs.is_appendage.Goals as goal
 
 pub returns-then-is_appendage_of : goal.returns-then-is_appendage_of

@@ -1,5 +1,4 @@
 use Rattle.name_suffix.proofs.Lawful.{answers}
-use borrow.Author.Rules.{rules}
 use Rattle.name_suffix.proofs.is_appendage_of.Goals as goal
 
 pub returns-then-same_text : goal.returns-then-same_text

@@ -1,5 +1,4 @@
 use Rattle.name_suffix.proofs.Lawful.{class_none, class_yes, class_no}
-use borrow.Author.Rules.{rules}
 use Rattle.name_suffix.proofs.is_class.Goals as goal
 
 pub returns-then-text-eq0 : goal.returns-then-text-eq0

@@ -1,6 +1,5 @@
 use Rattle.name_suffix.proofs.Lawful.{answers}
 use Rattle.text.specs.Pick.{member}
-use borrow.Author.Rules.{rules}
 use Rattle.name_suffix.proofs.is_class_end.Goals as goal
 
 pub returns-then-same_text : goal.returns-then-same_text

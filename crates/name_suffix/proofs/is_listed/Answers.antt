@@ -1,11 +1,7 @@
 use borrow.Author.Rules.{rules}
-use Prim.Native.Nat.{ℕ, suc, ◌+◌, ◌-◌, ◌*◌, ◌≤◌, ◌<◌}
 use native.Mathlib.Omega.{arith}
-use mathlib.Core.Path.{◌≡◌, refl, sym, ap, ◌∙◌}
-use lib.ListN.{length, drop}
-use Rattle.text.specs.Pick.{member}
-use Rattle.rules.specs.Names.{listed_suffixes}
-use Rattle.name_suffix.proofs.Listed.{left, table_bytes, table_lengths, whole, too_short, hit, miss, missed, length_le}
+use mathlib.Core.Path.{refl}
+use Rattle.name_suffix.proofs.Listed.{whole, too_short, hit, miss, missed, length_le}
 use Rattle.name_suffix.proofs.is_listed.Goals as goal
 
 pub loop-k-init : goal.loop-k-init

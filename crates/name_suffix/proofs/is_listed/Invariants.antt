@@ -1,12 +1,9 @@
 -- The loop's invariant: the text is one of those left in the table from k on, if it is listed at all. Assumes nothing.
-use borrow.Author.Rules.{rules}
-use Prim.Native.Nat.{ℕ, suc, ◌+◌, ◌-◌, ◌*◌, ◌≤◌, ◌<◌}
-use native.Mathlib.Omega.{arith}
-use mathlib.Core.Path.{◌≡◌, refl, sym, ap, ◌∙◌}
-use lib.ListN.{length, drop}
+use Prim.Native.Nat.{◌-◌, ◌≤◌}
+use mathlib.Core.Path.{◌≡◌}
 use Rattle.text.specs.Pick.{member}
 use Rattle.rules.specs.Names.{listed_suffixes}
-use Rattle.name_suffix.proofs.Listed.{left, table_bytes, table_lengths, whole, too_short, hit, miss, missed, length_le}
+use Rattle.name_suffix.proofs.Listed.{left, table_bytes, table_lengths}
 use Rattle.name_suffix.proofs.is_listed.Given as goal
 
 abbrev pub invariant-loop-k : goal.invariant-loop-k

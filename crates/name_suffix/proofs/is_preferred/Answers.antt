@@ -1,6 +1,5 @@
 use Rattle.name_suffix.proofs.Lawful.{answers}
 use Rattle.rules.specs.Names.{is_preferred}
-use borrow.Author.Rules.{rules}
 use Rattle.name_suffix.proofs.is_preferred.Goals as goal
 
 pub returns-then-is_preferred_class : goal.returns-then-is_preferred_class

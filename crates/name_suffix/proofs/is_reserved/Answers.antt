@@ -1,7 +1,6 @@
 use Rattle.name_suffix.proofs.Lawful.{answers}
 use Rattle.text.specs.Pick.{member}
 use Rattle.rules.specs.Names.{is_reserved}
-use borrow.Author.Rules.{rules}
 use Rattle.name_suffix.proofs.is_reserved.Goals as goal
 
 pub returns-then-same_text : goal.returns-then-same_text

@@ -1,5 +1,4 @@
 use Rattle.name_suffix.proofs.Lawful.{series_none, series_yes, series_no}
-use borrow.Author.Rules.{rules}
 use Rattle.name_suffix.proofs.is_series.Goals as goal
 
 pub returns-then-text-eq0 : goal.returns-then-text-eq0

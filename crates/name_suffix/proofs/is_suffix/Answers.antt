@@ -1,5 +1,4 @@
 use Rattle.name_suffix.proofs.Families.{of_family, of_list}
-use borrow.Author.Rules.{rules}
 use Rattle.name_suffix.proofs.is_suffix.Goals as goal
 
 pub returns-then-is_preferred : goal.returns-then-is_preferred

@@ -3,7 +3,6 @@ use mathlib.Core.Path.{sym}
 use lib.Seq.{length-take-le}
 use Rattle.name_suffix.proofs.Lawful.{answers}
 use Rattle.rules.specs.Names.{lawful_name}
-use borrow.Author.Rules.{rules}
 use Rattle.name_suffix.proofs.lawful_name.Goals as goal
 
 pub slice_bounds-has_reserved_root-end : goal.slice_bounds-has_reserved_root-end

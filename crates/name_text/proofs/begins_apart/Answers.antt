@@ -1,5 +1,4 @@
 use Rattle.name_text.proofs.Text.{apart, apart_second, not_apart}
-use borrow.Author.Rules.{rules}
 use Rattle.name_text.proofs.begins_apart.Goals as goal
 
 pub returns-then-a-eq32 : goal.returns-then-a-eq32

@@ -1,4 +1,3 @@
-use borrow.Author.Rules.{rules}
 use Rattle.name_text.proofs.Laying.{flags, flags_fit, flags_most, dot_length}
 use Rattle.name_text.proofs.dot_size.Goals as goal
 

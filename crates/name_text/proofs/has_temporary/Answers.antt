@@ -1,5 +1,4 @@
 use Rattle.name_text.proofs.Text.{temporary_no, temporary_yes}
-use borrow.Author.Rules.{rules}
 use Rattle.name_text.proofs.has_temporary.Goals as goal
 
 pub returns-then-n-eq0 : goal.returns-then-n-eq0

@@ -3,7 +3,6 @@ use Rattle.name_text.proofs.Layers.{laid_then, laid_room}
 use Rattle.name_text.proofs.Laying.{parts}
 use Rattle.rules.specs.Names.{name_text}
 use Rattle.text.specs.Pick.{opt}
-use borrow.Author.Rules.{rules}
 use Rattle.name_text.proofs.lay_name.Goals as goal
 
 pub slice_bounds-lay_word-end : goal.slice_bounds-lay_word-end

@@ -2,7 +2,6 @@ use native.Mathlib.Omega.{arith}
 use lib.ListN.{length-take, length-drop, length-set}
 use Rattle.name_text.proofs.Layers.{set_size}
 use Rattle.name_text.proofs.Laying.{laid_dotted}
-use borrow.Author.Rules.{rules}
 use Rattle.name_text.proofs.lay_part.Goals as goal
 
 pub slice_bounds-lay_word-count : goal.slice_bounds-lay_word-count

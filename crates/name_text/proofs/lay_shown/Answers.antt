@@ -1,6 +1,5 @@
 use native.Mathlib.Omega.{arith}
 use Rattle.name_text.proofs.Laying.{laid_hidden, laid_shown, laid_blank}
-use borrow.Author.Rules.{rules}
 use Rattle.name_text.proofs.lay_shown.Goals as goal
 
 pub returns-then-not-shown : goal.returns-then-not-shown

@@ -1,7 +1,6 @@
 use Rattle.name_suffix.proofs.Lawful.{answers}
 use Rattle.rules.specs.Names.{same_name}
 use Rattle.name_text.proofs.Text.{told_apart}
-use borrow.Author.Rules.{rules}
 use Rattle.name_text.proofs.same_name.Goals as goal
 
 pub returns-then-begins_apart : goal.returns-then-begins_apart

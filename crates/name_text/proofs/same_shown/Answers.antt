@@ -1,6 +1,5 @@
 use Rattle.name_text.proofs.Layers.{cut_length}
 use Rattle.name_text.proofs.Text.{same_cut}
-use borrow.Author.Rules.{rules}
 use Rattle.name_text.proofs.same_shown.Goals as goal
 
 pub slice_bounds-same_text-end : goal.slice_bounds-same_text-end

@@ -1,8 +1,5 @@
 use borrow.Author.Rules.{rules}
 use native.Mathlib.Omega.{arith}
-use Prim.Native.Nat.{◌-◌, ◌≤◌}
-use lib.ListN.{length, drop}
-use Rattle.name_words.specs.Word.{WordOf}
 use Rattle.name_text.proofs.Laying.{from_end, from_blank, from_byte, from_start}
 use Rattle.name_text.proofs.word_size.Goals as goal
 

@@ -1,10 +1,7 @@
 -- The loop's invariant: the columns from i on are looked at, and their text ends before column n. Assumes nothing.
-use borrow.Author.Rules.{rules}
-use native.Mathlib.Omega.{arith}
 use Prim.Native.Nat.{◌-◌, ◌≤◌}
 use lib.ListN.{length, drop}
 use Rattle.name_words.specs.Word.{WordOf}
-use Rattle.name_text.proofs.Laying.{from_end, from_blank, from_byte, from_start}
 use Rattle.name_text.proofs.word_size.Given as goal
 
 abbrev pub invariant-loop-i : goal.invariant-loop-i

@@ -1,5 +1,4 @@
 use Rattle.name_text.proofs.Layers.{cut_length, cut_room, cut_written}
-use borrow.Author.Rules.{rules}
 use Rattle.name_text.proofs.write_name.Goals as goal
 
 pub slice_bounds-write_bytes-end : goal.slice_bounds-write_bytes-end

@@ -1,5 +1,4 @@
 use Rattle.name_text.proofs.Layers.{take_length, take_most, put_again}
-use borrow.Author.Rules.{rules}
 use Rattle.name_text.proofs.write_sixteen.Goals as goal
 
 pub slice_bounds-write_bytes-end-4 : goal.slice_bounds-write_bytes-end-4

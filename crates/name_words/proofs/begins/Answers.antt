@@ -1,8 +1,5 @@
 use borrow.Author.Rules.{rules}
-use Prim.Native.Nat.{ℕ, suc, ◌+◌, ◌-◌, ◌*◌, ◌≤◌, ◌<◌}
-use mathlib.Core.Path.{◌≡◌, refl, sym, ap, ◌∙◌}
-use lib.ListN.{length, take, drop}
-use Rattle.text.specs.Reading.{starts}
+use mathlib.Core.Path.{refl}
 use Rattle.name_words.proofs.Fields.{front_short, front_no, front_more, front_all}
 use Rattle.name_words.proofs.begins.Goals as goal
 

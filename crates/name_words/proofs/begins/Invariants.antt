@@ -1,9 +1,7 @@
-use borrow.Author.Rules.{rules}
-use Prim.Native.Nat.{ℕ, suc, ◌+◌, ◌-◌, ◌*◌, ◌≤◌, ◌<◌}
-use mathlib.Core.Path.{◌≡◌, refl, sym, ap, ◌∙◌}
-use lib.ListN.{length, take, drop}
+use Prim.Native.Nat.{◌-◌, ◌≤◌}
+use mathlib.Core.Path.{◌≡◌}
+use lib.ListN.{length, drop}
 use Rattle.text.specs.Reading.{starts}
-use Rattle.name_words.proofs.Fields.{front_short, front_no, front_more, front_all}
 use Rattle.name_words.proofs.begins.Given as goal
 
 abbrev pub invariant-loop-i : goal.invariant-loop-i

@@ -1,8 +1,5 @@
 use borrow.Author.Rules.{rules}
-use Prim.Native.Nat.{ℕ, suc, ◌+◌, ◌-◌, ◌*◌, ◌≤◌, ◌<◌}
-use mathlib.Core.Path.{◌≡◌, refl, sym, ap, ◌∙◌}
-use lib.ListN.{length, take, drop}
-use Rattle.text.specs.Pick.{among}
+use mathlib.Core.Path.{refl}
 use Rattle.name_words.proofs.Fields.{among_yes, among_more, among_no}
 use Rattle.name_words.proofs.is_among.Goals as goal
 

@@ -1,8 +1,5 @@
 use borrow.Author.Rules.{rules}
-use Prim.Native.Nat.{ℕ, suc, ◌+◌, ◌-◌, ◌*◌, ◌≤◌, ◌<◌}
-use mathlib.Core.Path.{◌≡◌, refl, sym, ap, ◌∙◌}
-use lib.ListN.{length, take, drop}
-use Rattle.rules.specs.Columns.{blank}
+use mathlib.Core.Path.{refl}
 use Rattle.name_words.proofs.Fields.{blank_more, blank_no, blank_all}
 use Rattle.name_words.proofs.is_blank.Goals as goal
 

@@ -1,5 +1,4 @@
 use Rattle.name_words.proofs.Fields.{justified}
-use borrow.Author.Rules.{rules}
 use Rattle.name_words.proofs.is_left_justified.Goals as goal
 
 pub returns : goal.returns

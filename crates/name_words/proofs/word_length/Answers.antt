@@ -1,9 +1,5 @@
 use borrow.Author.Rules.{rules}
-use Prim.Native.Nat.{ℕ, suc, ◌+◌, ◌-◌, ◌*◌, ◌≤◌, ◌<◌}
-use mathlib.Core.Path.{◌≡◌, refl, sym, ap, ◌∙◌}
-use mathlib.Core.List.{◌++◌}
-use lib.ListN.{length, take, drop}
-use Rattle.rules.specs.Columns.{word}
+use mathlib.Core.Path.{refl}
 use Rattle.name_words.proofs.Fields.{passed, at_blank, at_end}
 use Rattle.name_words.proofs.word_length.Goals as goal
 

@@ -1,11 +1,9 @@
 -- The loop's invariant: i bytes of the field are passed, none of them a blank. Assumes nothing.
-use borrow.Author.Rules.{rules}
-use Prim.Native.Nat.{ℕ, suc, ◌+◌, ◌-◌, ◌*◌, ◌≤◌, ◌<◌}
-use mathlib.Core.Path.{◌≡◌, refl, sym, ap, ◌∙◌}
+use Prim.Native.Nat.{◌-◌, ◌≤◌}
+use mathlib.Core.Path.{◌≡◌}
 use mathlib.Core.List.{◌++◌}
 use lib.ListN.{length, take, drop}
 use Rattle.rules.specs.Columns.{word}
-use Rattle.name_words.proofs.Fields.{passed, at_blank, at_end}
 use Rattle.name_words.proofs.word_length.Given as goal
 
 abbrev pub invariant-loop-i : goal.invariant-loop-i

@@ -1,7 +1,6 @@
 use Rattle.text.proofs.Writing.{length_joined}
 use Rattle.rules.specs.Correction.{cancel_text}
 use Rattle.print_amendment.proofs.Amended.{opening_length}
-use borrow.Author.Rules.{rules}
 use Rattle.print_amendment.proofs.cancel_length.Goals as goal
 
 pub returns : goal.returns

@@ -1,6 +1,5 @@
 use Rattle.text.proofs.Writing.{length_joined}
 use Rattle.rules.specs.Correction.{correction_text}
-use borrow.Author.Rules.{rules}
 use Rattle.print_amendment.proofs.correction_length.Goals as goal
 
 pub returns : goal.returns

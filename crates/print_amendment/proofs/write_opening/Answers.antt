@@ -1,5 +1,4 @@
 use Rattle.text.proofs.Writing.{choices}
-use borrow.Author.Rules.{rules}
 use Rattle.print_amendment.proofs.write_opening.Goals as goal
 
 pub write_bytes-requires : goal.write_bytes-requires

@@ -1,4 +1,3 @@
-use borrow.Author.Rules.{rules}
 use native.Mathlib.Omega.{arith}
 use Rattle.print_amounts.proofs.Digits.{six_limits}
 use Rattle.print_amounts.proofs.digits_size.Goals as goal

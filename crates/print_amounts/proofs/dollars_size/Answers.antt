@@ -1,7 +1,6 @@
 use native.Mathlib.Omega.{arith}
 use Rattle.print_price.proofs.Texts.{full_length, one_length}
 use Rattle.print_amounts.proofs.Prices.{whole_digits}
-use borrow.Author.Rules.{rules}
 use Rattle.print_amounts.proofs.dollars_size.Goals as goal
 
 pub returns-in-Full : goal.returns-in-Full

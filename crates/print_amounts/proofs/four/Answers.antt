@@ -1,5 +1,4 @@
 use Rattle.print_amounts.proofs.Laying.{moved}
-use borrow.Author.Rules.{rules}
 use Rattle.print_amounts.proofs.four.Goals as goal
 
 pub returns : goal.returns

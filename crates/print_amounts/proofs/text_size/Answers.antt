@@ -1,6 +1,5 @@
 use native.Mathlib.Omega.{arith}
 use Rattle.text.proofs.Tests.{picks}
-use borrow.Author.Rules.{rules}
 use Rattle.print_amounts.proofs.text_size.Goals as goal
 
 pub returns-then-value-eq0 : goal.returns-then-value-eq0

@@ -1,7 +1,6 @@
 use native.Mathlib.Omega.{arith}
 use lib.ListN.{length-set}
 use Rattle.print_amounts.proofs.Prices.{part_room, back_room, columns_size, columns_written}
-use borrow.Author.Rules.{rules}
 use Rattle.print_amounts.proofs.write_columns.Goals as goal
 
 pub slice_bounds-write_bytes-count : goal.slice_bounds-write_bytes-count

@@ -1,5 +1,4 @@
 use Rattle.print_amounts.proofs.Volumes.{marked_written}
-use borrow.Author.Rules.{rules}
 use Rattle.print_amounts.proofs.write_marked.Goals as goal
 
 pub returns : goal.returns

@@ -1,6 +1,5 @@
 use Rattle.text.proofs.Writing.{rooms, then}
 use Rattle.print_announcement.proofs.Modes.{places_room}
-use borrow.Author.Rules.{rules}
 use Rattle.print_announcement.proofs.write_cents.Goals as goal
 
 pub write_whole-at-requires : goal.write_whole-at-requires

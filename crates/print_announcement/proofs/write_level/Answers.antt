@@ -1,6 +1,5 @@
 use Rattle.text.proofs.Writing.{rooms, then}
 use Rattle.rules.specs.Announcement.{level_text}
-use borrow.Author.Rules.{rules}
 use Rattle.print_announcement.proofs.write_level.Goals as goal
 
 pub write_bytes-at-requires : goal.write_bytes-at-requires

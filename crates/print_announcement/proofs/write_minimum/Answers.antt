@@ -1,6 +1,5 @@
 use Rattle.text.proofs.Writing.{rooms, then}
 use Rattle.rules.specs.Announcement.{minimum_text}
-use borrow.Author.Rules.{rules}
 use Rattle.print_announcement.proofs.write_minimum.Goals as goal
 
 pub write_bytes-at-requires : goal.write_bytes-at-requires

@@ -1,6 +1,5 @@
 use Rattle.text.proofs.Writing.{named, fits}
 use Rattle.print_announcement.proofs.Modes.{dollars_is}
-use borrow.Author.Rules.{rules}
 use Rattle.print_announcement.proofs.write_minimum_dollars.Goals as goal
 
 pub write_cents-requires : goal.write_cents-requires

@@ -1,6 +1,5 @@
 use Rattle.text.proofs.Writing.{named, fits}
 use Rattle.print_announcement.proofs.Modes.{modes}
-use borrow.Author.Rules.{rules}
 use Rattle.print_announcement.proofs.write_mode.Goals as goal
 
 pub write_normal-requires : goal.write_normal-requires

@@ -1,6 +1,5 @@
 use Rattle.text.proofs.Writing.{named, fits, written_nothing}
 use Rattle.print_announcement.proofs.Modes.{steps}
-use borrow.Author.Rules.{rules}
 use Rattle.print_announcement.proofs.write_step.Goals as goal
 
 pub write_minimum-requires : goal.write_minimum-requires

@@ -1,6 +1,5 @@
 use Rattle.text.proofs.Writing.{rooms, then}
 use Rattle.rules.specs.Conditions.{after_name}
-use borrow.Author.Rules.{rules}
 use Rattle.print_conditions.proofs.write_after_name.Goals as goal
 
 pub write_next_day-at-requires : goal.write_next_day-at-requires

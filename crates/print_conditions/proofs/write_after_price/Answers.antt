@@ -1,6 +1,5 @@
 use Rattle.text.proofs.Writing.{rooms, then}
 use Rattle.rules.specs.Conditions.{after_price}
-use borrow.Author.Rules.{rules}
 use Rattle.print_conditions.proofs.write_after_price.Goals as goal
 
 pub write_cash-at-requires : goal.write_cash-at-requires

@@ -1,5 +1,4 @@
 use Rattle.text.proofs.Writing.{answers}
-use borrow.Author.Rules.{rules}
 use Rattle.print_conditions.proofs.write_cash.Goals as goal
 
 pub write_optional-requires : goal.write_optional-requires

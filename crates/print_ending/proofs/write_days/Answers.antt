@@ -1,6 +1,5 @@
 use Rattle.text.proofs.Writing.{rooms, then}
 use Rattle.rules.specs.Conditions.{seller_text}
-use borrow.Author.Rules.{rules}
 use Rattle.print_ending.proofs.write_days.Goals as goal
 
 pub write_bytes-at-requires : goal.write_bytes-at-requires

@@ -1,5 +1,4 @@
 use Rattle.text.proofs.Writing.{options}
-use borrow.Author.Rules.{rules}
 use Rattle.print_ending.proofs.write_seller.Goals as goal
 
 pub write_days-requires : goal.write_days-requires

@@ -1,6 +1,5 @@
 use native.Mathlib.Omega.{arith}
 use Rattle.print_price.proofs.Texts.{full_length, one_length}
-use borrow.Author.Rules.{rules}
 use Rattle.print_price.proofs.dollars_length.Goals as goal
 
 pub returns-in-Full : goal.returns-in-Full

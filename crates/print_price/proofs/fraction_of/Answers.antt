@@ -1,5 +1,4 @@
 use Rattle.print_price.proofs.Texts.{fraction_is}
-use borrow.Author.Rules.{rules}
 use Rattle.print_price.proofs.fraction_of.Goals as goal
 
 pub returns : goal.returns

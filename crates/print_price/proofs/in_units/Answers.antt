@@ -1,5 +1,4 @@
 use Rattle.print_price.proofs.Texts.{units_is, units_below, units_fit}
-use borrow.Author.Rules.{rules}
 use Rattle.print_price.proofs.in_units.Goals as goal
 
 pub overflow_mul-result : goal.overflow_mul-result

@@ -1,6 +1,4 @@
-use Rattle.text.proofs.Writing.{length_joined}
 use Rattle.print_price.proofs.Texts.{priced_length}
-use Rattle.rules.specs.Price.{price_text}
 use borrow.Author.Rules.{rules}
 use Rattle.print_price.proofs.price_length.Goals as goal
 

@@ -1,5 +1,4 @@
 use Rattle.print_price.proofs.Texts.{whole_is}
-use borrow.Author.Rules.{rules}
 use Rattle.print_price.proofs.whole_part.Goals as goal
 
 pub returns : goal.returns

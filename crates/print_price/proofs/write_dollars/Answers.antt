@@ -1,5 +1,4 @@
 use Rattle.print_price.proofs.Texts.{full_room, short_room, written_full, written_short}
-use borrow.Author.Rules.{rules}
 use Rattle.print_price.proofs.write_dollars.Goals as goal
 
 pub write_whole-requires : goal.write_whole-requires

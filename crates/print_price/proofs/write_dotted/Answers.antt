@@ -1,5 +1,4 @@
 use Rattle.text.proofs.Writing.{then}
-use borrow.Author.Rules.{rules}
 use Rattle.print_price.proofs.write_dotted.Goals as goal
 
 pub returns : goal.returns

@@ -1,7 +1,6 @@
 use Rattle.text.proofs.Writing.{choices}
 use Rattle.print_price.proofs.Texts.{dotted_room}
 use Rattle.rules.specs.Price.{fraction_text}
-use borrow.Author.Rules.{rules}
 use Rattle.print_price.proofs.write_fraction.Goals as goal
 
 pub returns-then-f-eq0 : goal.returns-then-f-eq0

@@ -1,6 +1,4 @@
-use Rattle.text.proofs.Writing.{then, rooms}
 use Rattle.print_price.proofs.Texts.{priced_first, priced_then, written_price}
-use borrow.Author.Rules.{rules}
 use Rattle.print_price.proofs.write_price.Goals as goal
 
 pub write_dollars-at-requires : goal.write_dollars-at-requires

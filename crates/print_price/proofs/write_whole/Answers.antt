@@ -1,6 +1,5 @@
 use Rattle.text.proofs.Writing.{choices}
 use Rattle.rules.specs.Price.{whole_text}
-use borrow.Author.Rules.{rules}
 use Rattle.print_price.proofs.write_whole.Goals as goal
 
 pub returns-then-w-eq0 : goal.returns-then-w-eq0

@@ -1,5 +1,4 @@
 use Rattle.print_volume.proofs.Forms.{formed_shares, formed_hundreds, formed_tens, formed_odd, formed_full_hundreds, formed_full_tens}
-use borrow.Author.Rules.{rules}
 use Rattle.print_volume.proofs.form_of.Goals as goal
 
 pub returns-then-odd : goal.returns-then-odd

@@ -1,6 +1,5 @@
 use Rattle.text.proofs.Tests.{bools}
 use Rattle.rules.specs.Volume.{is_round}
-use borrow.Author.Rules.{rules}
 use Rattle.print_volume.proofs.is_in_shares.Goals as goal
 
 pub returns-then-v-unit-ne0 : goal.returns-then-v-unit-ne0

@@ -1,6 +1,5 @@
 use Rattle.text.proofs.Writing.{choices}
 use Rattle.rules.specs.Volume.{full_volume}
-use borrow.Author.Rules.{rules}
 use Rattle.print_volume.proofs.write_full_volume.Goals as goal
 
 pub write_decimal-requires : goal.write_decimal-requires

@@ -2,7 +2,6 @@ use Rattle.text.proofs.Writing.{joined}
 use Rattle.print_volume.proofs.Lengths.{group_length}
 use Rattle.rules.specs.Volume.{group}
 use native.Mathlib.Omega.{arith}
-use borrow.Author.Rules.{rules}
 use Rattle.print_volume.proofs.write_group.Goals as goal
 
 pub write_bytes-at-requires : goal.write_bytes-at-requires

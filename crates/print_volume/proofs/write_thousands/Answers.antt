@@ -1,5 +1,4 @@
 use Rattle.text.proofs.Writing.{rooms, then}
-use borrow.Author.Rules.{rules}
 use Rattle.print_volume.proofs.write_thousands.Goals as goal
 
 pub write_decimal-at-requires : goal.write_decimal-at-requires

@@ -1,5 +1,4 @@
 use Rattle.print_volume.proofs.Forms.{unsaid_written, figures_room, mark_room, said_written}
-use borrow.Author.Rules.{rules}
 use Rattle.print_volume.proofs.write_volume.Goals as goal
 
 pub returns-then-is_unsaid : goal.returns-then-is_unsaid

@@ -1,7 +1,4 @@
-use Prim.Native.Nat.{◌-◌, ◌≤◌, ◌<◌, ◌^◌}
-use mathlib.Core.Path.{◌≡◌, refl}
-use lib.ListN.{length, drop}
-use Rattle.read_announcement.specs.Announced.{digits_in}
+use mathlib.Core.Path.{refl}
 use Rattle.read_announcement.proofs.Reading.{digits_more, digits_all, digits_small, digits_grow}
 use borrow.Author.Rules.{rules}
 use Rattle.read_announcement.proofs.digits_in.Goals as goal

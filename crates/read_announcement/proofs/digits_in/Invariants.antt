@@ -1,9 +1,7 @@
 use Prim.Native.Nat.{◌-◌, ◌≤◌, ◌<◌, ◌^◌}
-use mathlib.Core.Path.{◌≡◌, refl}
+use mathlib.Core.Path.{◌≡◌}
 use lib.ListN.{length, drop}
 use Rattle.read_announcement.specs.Announced.{digits_in}
-use Rattle.read_announcement.proofs.Reading.{digits_more, digits_all, digits_small, digits_grow}
-use borrow.Author.Rules.{rules}
 use Rattle.read_announcement.proofs.digits_in.Given as goal
 
 abbrev pub invariant-loop-i : goal.invariant-loop-i

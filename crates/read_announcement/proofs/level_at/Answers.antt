@@ -1,7 +1,6 @@
 use Rattle.read_announcement.specs.Announced.{level_at}
 use Rattle.read_announcement.proofs.Reading.{cut_length, by}
 use Rattle.read_announcement.proofs.Back.{level_fits}
-use borrow.Author.Rules.{rules}
 use Rattle.read_announcement.proofs.level_at.Goals as goal
 
 pub returns-then-level-lt5000 : goal.returns-then-level-lt5000

@@ -1,7 +1,6 @@
 use Rattle.read_announcement.specs.Announced.{minimum_at}
 use Rattle.read_announcement.proofs.Reading.{cut_length, by}
 use Rattle.read_announcement.proofs.Back.{minimum_fits}
-use borrow.Author.Rules.{rules}
 use Rattle.read_announcement.proofs.minimum_at.Goals as goal
 
 pub returns-then-minimum-lt1 : goal.returns-then-minimum-lt1

@@ -1,5 +1,4 @@
 use Rattle.read_announcement.proofs.Reading.{number_none, number_is}
-use borrow.Author.Rules.{rules}
 use Rattle.read_announcement.proofs.number_at.Goals as goal
 
 pub returns-then-s-end : goal.returns-then-s-end

@@ -1,6 +1,5 @@
 use Rattle.text.proofs.Told.{told}
 use Rattle.read_announcement.specs.Announced.{length_at}
-use borrow.Author.Rules.{rules}
 use Rattle.read_announcement.proofs.text_at.Goals as goal
 
 pub returns-then-begins : goal.returns-then-begins

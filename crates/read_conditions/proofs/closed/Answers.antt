@@ -1,5 +1,4 @@
 use Rattle.read_conditions.proofs.Steps.{closed_room, closed_fits, closed_yes, closed_no, closed_none}
-use borrow.Author.Rules.{rules}
 use Rattle.read_conditions.proofs.closed.Goals as goal
 
 pub returns-in_default : goal.returns-in_default

@@ -1,5 +1,4 @@
 use Rattle.read_conditions.proofs.Steps.{previous_room, previous_none, previous_is, price_part}
-use borrow.Author.Rules.{rules}
 use Rattle.read_conditions.proofs.previous_in.Goals as goal
 
 pub returns-then-not-stands : goal.returns-then-not-stands

@@ -1,5 +1,4 @@
 use Rattle.read_conditions.proofs.Steps.{seller_room, days_none, days_zero, days_are}
-use borrow.Author.Rules.{rules}
 use Rattle.read_conditions.proofs.seller_days.Goals as goal
 
 pub returns-then-not-stands : goal.returns-then-not-stands

@@ -1,5 +1,4 @@
 use Rattle.read_conditions.proofs.Steps.{stood}
-use borrow.Author.Rules.{rules}
 use Rattle.read_conditions.proofs.stands.Goals as goal
 
 pub returns : goal.returns

@@ -1,5 +1,4 @@
 use Rattle.read_step.proofs.Ways.{step_failed, part_from, part_end, read_in, read_placed, step_told}
-use borrow.Author.Rules.{rules}
 use Rattle.read_facts.proofs.step.Goals as goal
 
 pub returns-then-p : goal.returns-then-p

@@ -1,6 +1,4 @@
-use Rattle.read_told.specs.Lines.{print_line}
-use Rattle.read_facts.specs.Facts.{longest_line}
-use Rattle.read_tape.proofs.Blocks.{Here, left, here_start, here_end, here_stop, here_placed, here_room, here_less, here_on}
+use Rattle.read_tape.proofs.Blocks.{here_start, here_end, here_stop, here_placed, here_room, here_less, here_on}
 use borrow.Author.Rules.{rules}
 use Rattle.read_facts.proofs.tell_block.Goals as goal
 

@@ -1,8 +1,7 @@
 -- The loop's invariant: going on from here leads where the whole block leads. Assumes nothing.
 use Rattle.read_told.specs.Lines.{print_line}
 use Rattle.read_facts.specs.Facts.{longest_line}
-use Rattle.read_tape.proofs.Blocks.{Here, left, here_start, here_end, here_stop, here_placed, here_room, here_less, here_on}
-use borrow.Author.Rules.{rules}
+use Rattle.read_tape.proofs.Blocks.{Here, left}
 use Rattle.read_facts.proofs.tell_block.Given as goal
 
 abbrev pub invariant-loop-r : goal.invariant-loop-r

@@ -1,5 +1,4 @@
 use Rattle.read_name.proofs.Heads.{next_room, next_day, same_day}
-use borrow.Author.Rules.{rules}
 use Rattle.read_name.proofs.after_in.Goals as goal
 
 pub slice_bounds-sold_in-count : goal.slice_bounds-sold_in-count

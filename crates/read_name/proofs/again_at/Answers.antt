@@ -1,6 +1,5 @@
 use Rattle.read_name.proofs.Heads.{again_is}
 use Rattle.read_name.proofs.Count.{front_cut}
-use borrow.Author.Rules.{rules}
 use Rattle.read_name.proofs.again_at.Goals as goal
 
 pub slice_bounds-again_in-end : goal.slice_bounds-again_in-end

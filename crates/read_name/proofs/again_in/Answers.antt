@@ -1,5 +1,4 @@
 use Rattle.read_name.proofs.Heads.{again_none, again_not, again_room, again_yes}
-use borrow.Author.Rules.{rules}
 use Rattle.read_name.proofs.again_in.Goals as goal
 
 pub returns-then-run-eq0 : goal.returns-then-run-eq0

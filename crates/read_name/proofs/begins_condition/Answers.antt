@@ -1,5 +1,4 @@
 use Rattle.text.proofs.Told.{answers}
-use borrow.Author.Rules.{rules}
 use Rattle.read_name.proofs.begins_condition.Goals as goal
 
 pub returns-then-begins : goal.returns-then-begins

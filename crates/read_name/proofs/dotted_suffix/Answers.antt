@@ -1,5 +1,4 @@
 use Rattle.text.proofs.Told.{answers}
-use borrow.Author.Rules.{rules}
 use Rattle.read_name.proofs.dotted_suffix.Goals as goal
 
 pub returns-then-heads_raised : goal.returns-then-heads_raised

@@ -1,5 +1,4 @@
 use Rattle.read_name.proofs.Ends.{ends_no, ends_yes}
-use borrow.Author.Rules.{rules}
 use Rattle.read_name.proofs.ends_in.Goals as goal
 
 pub returns-then-s-e : goal.returns-then-s-e

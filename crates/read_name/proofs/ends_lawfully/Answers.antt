@@ -1,7 +1,6 @@
 use Rattle.text.proofs.Told.{answers}
 use Rattle.read_name.specs.Name.{ends_lawfully}
 use Rattle.read_name.proofs.Ends.{ends_room, before_cut}
-use borrow.Author.Rules.{rules}
 use Rattle.read_name.proofs.ends_lawfully.Goals as goal
 
 pub returns-then-plain_end : goal.returns-then-plain_end

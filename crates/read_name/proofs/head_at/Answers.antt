@@ -1,6 +1,5 @@
 use Rattle.read_name.proofs.Heads.{head_is}
 use Rattle.read_name.proofs.Count.{front_cut}
-use borrow.Author.Rules.{rules}
 use Rattle.read_name.proofs.head_at.Goals as goal
 
 pub slice_bounds-in_run-end : goal.slice_bounds-in_run-end

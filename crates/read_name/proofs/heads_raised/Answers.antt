@@ -1,5 +1,4 @@
 use Rattle.read_name.proofs.Ends.{raised_none, raised_at}
-use borrow.Author.Rules.{rules}
 use Rattle.read_name.proofs.heads_raised.Goals as goal
 
 pub returns-then-s-eq0 : goal.returns-then-s-eq0

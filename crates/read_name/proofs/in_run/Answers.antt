@@ -1,6 +1,5 @@
 use Rattle.read_name.proofs.Heads.{run_is}
 use Rattle.read_name.proofs.Count.{front_cut}
-use borrow.Author.Rules.{rules}
 use Rattle.read_name.proofs.in_run.Goals as goal
 
 pub slice_bounds-named_by-end : goal.slice_bounds-named_by-end

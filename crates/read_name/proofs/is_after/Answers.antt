@@ -1,5 +1,4 @@
 use Rattle.read_name.proofs.Heads.{after_none, after_dot, after_no}
-use borrow.Author.Rules.{rules}
 use Rattle.read_name.proofs.is_after.Goals as goal
 
 pub returns-then-s-eq0 : goal.returns-then-s-eq0

@@ -1,6 +1,5 @@
 use Rattle.read_name.proofs.Ends.{alone_no, alone_is}
 use Rattle.read_name.proofs.Count.{front_cut}
-use borrow.Author.Rules.{rules}
 use Rattle.read_name.proofs.is_name_alone.Goals as goal
 
 pub slice_bounds-lawful_root-end : goal.slice_bounds-lawful_root-end

@@ -1,6 +1,5 @@
 use Rattle.text.proofs.Told.{answers}
 use Rattle.rules.specs.Tape.{is_upper}
-use borrow.Author.Rules.{rules}
 use Rattle.read_name.proofs.is_upper.Goals as goal
 
 pub returns-then-is_letter : goal.returns-then-is_letter

@@ -1,7 +1,6 @@
 use Rattle.text.proofs.Told.{answers}
 use Rattle.rules.specs.Columns.{between}
 use Rattle.read_name.specs.Name.{lawful_root}
-use borrow.Author.Rules.{rules}
 use Rattle.read_name.proofs.lawful_root.Goals as goal
 
 pub returns-then-root-lt1 : goal.returns-then-root-lt1

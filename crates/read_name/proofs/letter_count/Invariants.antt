@@ -1,11 +1,8 @@
-use native.Mathlib.Omega.{arith}
 use Prim.Native.Nat.{◌+◌, ◌-◌, ◌≤◌}
 use mathlib.Core.Path.{◌≡◌}
 use lib.ListN.{length, drop}
 use Rattle.rules.specs.Tape.{is_letter}
 use Rattle.read_name.specs.Name.{count_of}
-use Rattle.read_name.proofs.Count.{count_short, count_full, count_stop, count_more}
-use borrow.Author.Rules.{rules}
 use Rattle.read_name.proofs.letter_count.Given as goal
 
 abbrev pub invariant-loop-i : goal.invariant-loop-i

@@ -1,10 +1,7 @@
-use native.Mathlib.Omega.{arith}
 use Prim.Native.Nat.{◌+◌, ◌-◌, ◌≤◌}
 use mathlib.Core.Path.{◌≡◌}
 use lib.ListN.{length, drop}
 use Rattle.read_name.specs.Head.{name_count}
-use Rattle.read_name.proofs.Count.{cut_end, cut_here, cut_later}
-use borrow.Author.Rules.{rules}
 use Rattle.read_name.proofs.name_count.Given as goal
 
 abbrev pub invariant-loop-i : goal.invariant-loop-i

@@ -1,6 +1,5 @@
 use Rattle.read_name.proofs.Ends.{root_no, on_a, on_b}
 use Rattle.read_name.proofs.Count.{front_cut}
-use borrow.Author.Rules.{rules}
 use Rattle.read_name.proofs.name_on.Goals as goal
 
 pub slice_bounds-lawful_root-end : goal.slice_bounds-lawful_root-end

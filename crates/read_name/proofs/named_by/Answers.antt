@@ -1,5 +1,4 @@
 use Rattle.read_name.proofs.Heads.{unnamed, named_alone, named_a, named_b, named_none}
-use borrow.Author.Rules.{rules}
 use Rattle.read_name.proofs.named_by.Goals as goal
 
 pub returns-in_default : goal.returns-in_default

@@ -1,6 +1,5 @@
 use Rattle.text.proofs.Told.{answers}
 use Rattle.read_name.specs.Name.{plain_end}
-use borrow.Author.Rules.{rules}
 use Rattle.read_name.proofs.plain_end.Goals as goal
 
 pub returns-then-suffix_text : goal.returns-then-suffix_text

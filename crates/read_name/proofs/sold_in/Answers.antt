@@ -1,6 +1,5 @@
 use Rattle.text.proofs.Told.{told}
 use Rattle.read_name.specs.Head.{sold_in}
-use borrow.Author.Rules.{rules}
 use Rattle.read_name.proofs.sold_in.Goals as goal
 
 pub returns-then-same_text : goal.returns-then-same_text

@@ -1,5 +1,4 @@
 use Rattle.read_name.proofs.Ends.{suffix_none, suffix_dot, suffix_raised, suffix_no}
-use borrow.Author.Rules.{rules}
 use Rattle.read_name.proofs.suffix_text.Goals as goal
 
 pub returns-then-s-eq0 : goal.returns-then-s-eq0

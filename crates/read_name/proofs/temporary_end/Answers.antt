@@ -1,5 +1,4 @@
 use Rattle.text.proofs.Told.{answers}
-use borrow.Author.Rules.{rules}
 use Rattle.read_name.proofs.temporary_end.Goals as goal
 
 pub returns-then-with_end : goal.returns-then-with_end

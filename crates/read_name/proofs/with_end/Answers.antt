@@ -1,7 +1,6 @@
 use Rattle.text.proofs.Told.{answers}
 use Rattle.read_name.specs.Name.{with_end}
 use Rattle.read_name.proofs.Ends.{ends_room, before_cut}
-use borrow.Author.Rules.{rules}
 use Rattle.read_name.proofs.with_end.Goals as goal
 
 pub overflow_sub-n : goal.overflow_sub-n

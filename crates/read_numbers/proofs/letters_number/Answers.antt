@@ -1,5 +1,4 @@
 use Rattle.read_numbers.proofs.Arms.{letters_are}
-use borrow.Author.Rules.{rules}
 use Rattle.read_numbers.proofs.letters_number.Goals as goal
 
 pub returns : goal.returns

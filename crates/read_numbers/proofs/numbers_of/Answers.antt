@@ -1,6 +1,5 @@
 use Rattle.read_told.proofs.Sound.{sounds}
 use Rattle.read_numbers.proofs.Arms.{arms}
-use borrow.Author.Rules.{rules}
 use Rattle.read_numbers.proofs.numbers_of.Goals as goal
 
 pub print_numbers-requires : goal.print_numbers-requires

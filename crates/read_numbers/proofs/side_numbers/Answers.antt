@@ -1,5 +1,4 @@
 use Rattle.read_numbers.proofs.Arms.{side_is}
-use borrow.Author.Rules.{rules}
 use Rattle.read_numbers.proofs.side_numbers.Goals as goal
 
 pub returns : goal.returns

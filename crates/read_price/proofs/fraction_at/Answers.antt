@@ -1,5 +1,4 @@
 use Rattle.read_price.proofs.Front.{fraction_none, fraction_no, fraction_yes}
-use borrow.Author.Rules.{rules}
 use Rattle.read_price.proofs.fraction_at.Goals as goal
 
 pub returns-then-s-eq0 : goal.returns-then-s-eq0

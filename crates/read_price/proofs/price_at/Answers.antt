@@ -1,6 +1,5 @@
 use Rattle.read_price.proofs.Front.{price_empty, price_zero, price_is}
 use Rattle.read_price.proofs.Bounds.{digits_count, digits_within, digits_below, fraction_count, fraction_below}
-use borrow.Author.Rules.{rules}
 use Rattle.read_price.proofs.price_at.Goals as goal
 
 pub returns-then-s-eq0 : goal.returns-then-s-eq0

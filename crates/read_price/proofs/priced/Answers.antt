@@ -1,5 +1,4 @@
 use Rattle.read_price.proofs.Front.{priced_none, priced_whole, priced_both, whole_fits, price_fits}
-use borrow.Author.Rules.{rules}
 use Rattle.read_price.proofs.priced.Goals as goal
 
 pub returns-then-w-eq0 : goal.returns-then-w-eq0

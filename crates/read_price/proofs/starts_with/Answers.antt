@@ -1,8 +1,4 @@
-use Prim.Native.Nat.{ℕ, suc, ◌+◌, ◌-◌, ◌*◌, ◌^◌, ◌≤◌, ◌<◌}
-use native.Mathlib.Omega.{arith}
-use mathlib.Core.Path.{◌≡◌, refl, sym, ap, ◌∙◌}
-use lib.ListN.{length, drop}
-use Rattle.text.specs.Reading.{starts}
+use mathlib.Core.Path.{refl}
 use Rattle.read_price.proofs.Front.{start_short, start_differs, start_more, start_all}
 use borrow.Author.Rules.{rules}
 use Rattle.read_price.proofs.starts_with.Goals as goal

@@ -1,5 +1,4 @@
 use Rattle.text.proofs.Told.{answers}
-use borrow.Author.Rules.{rules}
 use Rattle.read_side.proofs.allowed.Goals as goal
 
 pub returns-then-not-allows : goal.returns-then-not-allows

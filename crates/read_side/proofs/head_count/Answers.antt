@@ -1,5 +1,4 @@
 use Rattle.read_side.proofs.Sides.{counted}
-use borrow.Author.Rules.{rules}
 use Rattle.read_side.proofs.head_count.Goals as goal
 
 pub returns : goal.returns

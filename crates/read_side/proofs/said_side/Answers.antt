@@ -1,5 +1,4 @@
 use Rattle.read_side.proofs.Sides.{unsaid, said_room, said_is}
-use borrow.Author.Rules.{rules}
 use Rattle.read_side.proofs.said_side.Goals as goal
 
 pub returns-in_default : goal.returns-in_default

@@ -1,5 +1,4 @@
 use Rattle.read_side.proofs.Sides.{side_said, side_unsaid}
-use borrow.Author.Rules.{rules}
 use Rattle.read_side.proofs.side_at.Goals as goal
 
 pub returns-in-Sided : goal.returns-in-Sided

@@ -1,5 +1,4 @@
 use Rattle.read_side.proofs.Sides.{unpriced, priced_room, priced_fits, priced_is}
-use borrow.Author.Rules.{rules}
 use Rattle.read_side.proofs.sided_by.Goals as goal
 
 pub returns-in_default : goal.returns-in_default

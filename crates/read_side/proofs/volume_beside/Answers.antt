@@ -1,5 +1,4 @@
 use Rattle.read_side.proofs.Sides.{besides}
-use borrow.Author.Rules.{rules}
 use Rattle.read_side.proofs.volume_beside.Goals as goal
 
 pub returns-in-Alone : goal.returns-in-Alone

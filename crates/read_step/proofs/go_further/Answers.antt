@@ -1,5 +1,4 @@
 use Rattle.read_step.proofs.Ways.{further_over, further_fits, further_on}
-use borrow.Author.Rules.{rules}
 use Rattle.read_step.proofs.go_further.Goals as goal
 
 pub returns-then-is_over : goal.returns-then-is_over

@@ -1,5 +1,4 @@
 use Rattle.text.proofs.Tests.{bools}
-use borrow.Author.Rules.{rules}
 use Rattle.read_tape.proofs.goes_on.Goals as goal
 
 pub returns-then-n-lt1 : goal.returns-then-n-lt1

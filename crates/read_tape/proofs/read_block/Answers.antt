@@ -1,5 +1,4 @@
-use Rattle.read_tape.specs.Tape.{place_line}
-use Rattle.read_tape.proofs.Blocks.{Here, left, here_start, here_end, here_stop, here_placed, here_room, here_less, here_on}
+use Rattle.read_tape.proofs.Blocks.{here_start, here_end, here_stop, here_placed, here_room, here_less, here_on}
 use borrow.Author.Rules.{rules}
 use Rattle.read_tape.proofs.read_block.Goals as goal
 

@@ -1,7 +1,6 @@
 -- The loop's invariant: going on from here leads where the whole block leads. Assumes nothing.
 use Rattle.read_tape.specs.Tape.{place_line}
-use Rattle.read_tape.proofs.Blocks.{Here, left, here_start, here_end, here_stop, here_placed, here_room, here_less, here_on}
-use borrow.Author.Rules.{rules}
+use Rattle.read_tape.proofs.Blocks.{Here, left}
 use Rattle.read_tape.proofs.read_block.Given as goal
 
 abbrev pub invariant-loop-r : goal.invariant-loop-r

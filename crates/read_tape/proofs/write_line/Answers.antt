@@ -1,6 +1,5 @@
 use Rattle.text.proofs.Writing.{then, rooms}
 use Rattle.read_tape.specs.Tape.{line_of}
-use borrow.Author.Rules.{rules}
 use Rattle.read_tape.proofs.write_line.Goals as goal
 
 pub write_right-a-requires : goal.write_right-a-requires

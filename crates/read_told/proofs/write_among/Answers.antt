@@ -1,6 +1,5 @@
 use Rattle.text.proofs.Writing.{rooms, then}
 use Rattle.read_told.specs.Lines.{among_text}
-use borrow.Author.Rules.{rules}
 use Rattle.read_told.proofs.write_among.Goals as goal
 
 pub write_bytes-i-requires : goal.write_bytes-i-requires

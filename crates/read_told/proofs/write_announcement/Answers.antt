@@ -1,6 +1,5 @@
 use Rattle.text.proofs.Writing.{rooms, then}
 use Rattle.read_told.specs.Lines.{announcement_text}
-use borrow.Author.Rules.{rules}
 use Rattle.read_told.proofs.write_announcement.Goals as goal
 
 pub write_bytes-at-requires : goal.write_bytes-at-requires

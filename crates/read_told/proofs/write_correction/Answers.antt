@@ -1,6 +1,5 @@
 use Rattle.text.proofs.Writing.{rooms, then}
 use Rattle.read_told.specs.Lines.{correction_text}
-use borrow.Author.Rules.{rules}
 use Rattle.read_told.proofs.write_correction.Goals as goal
 
 pub write_among-i-requires : goal.write_among-i-requires

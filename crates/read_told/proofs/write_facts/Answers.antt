@@ -1,7 +1,6 @@
 use Rattle.text.proofs.Writing.{named, fits}
 use Rattle.read_told.proofs.Lines.{told, ends}
 use Rattle.read_told.proofs.Sound.{sounds}
-use borrow.Author.Rules.{rules}
 use Rattle.read_told.proofs.write_facts.Goals as goal
 
 pub overflow_add-to : goal.overflow_add-to

@@ -1,6 +1,5 @@
 use Rattle.text.proofs.Writing.{rooms, then}
 use Rattle.read_told.specs.Lines.{line_text}
-use borrow.Author.Rules.{rules}
 use Rattle.read_told.proofs.write_line.Goals as goal
 
 pub write_places-i-requires : goal.write_places-i-requires

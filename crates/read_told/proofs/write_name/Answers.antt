@@ -1,6 +1,5 @@
 use Rattle.text.proofs.Writing.{rooms, then}
 use Rattle.read_told.specs.Lines.{name_text}
-use borrow.Author.Rules.{rules}
 use Rattle.read_told.proofs.write_name.Goals as goal
 
 pub write_bytes-i-requires : goal.write_bytes-i-requires

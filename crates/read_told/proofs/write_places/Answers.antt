@@ -1,6 +1,5 @@
 use Rattle.text.proofs.Writing.{rooms, then}
 use Rattle.read_told.specs.Lines.{place_text}
-use borrow.Author.Rules.{rules}
 use Rattle.read_told.proofs.write_places.Goals as goal
 
 pub write_right-at-requires : goal.write_right-at-requires

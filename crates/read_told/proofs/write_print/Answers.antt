@@ -1,6 +1,5 @@
 use Rattle.text.proofs.Writing.{named, fits}
 use Rattle.read_told.proofs.Lines.{told_is}
-use borrow.Author.Rules.{rules}
 use Rattle.read_told.proofs.write_print.Goals as goal
 
 pub write_line-requires : goal.write_line-requires

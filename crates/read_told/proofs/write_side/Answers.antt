@@ -1,6 +1,5 @@
 use Rattle.text.proofs.Writing.{named, fits}
 use Rattle.read_told.proofs.Lines.{side_is}
-use borrow.Author.Rules.{rules}
 use Rattle.read_told.proofs.write_side.Goals as goal
 
 pub write_full-requires : goal.write_full-requires

@@ -1,5 +1,4 @@
 use Rattle.text.proofs.Writing.{then}
-use borrow.Author.Rules.{rules}
 use Rattle.read_told.proofs.write_trade.Goals as goal
 
 pub returns : goal.returns

@@ -1,6 +1,5 @@
-use Rattle.read_volume.specs.Volume.{explained, explains_both}
+use Rattle.read_volume.specs.Volume.{explained}
 use Rattle.text.proofs.Told.{told}
-use borrow.Author.Rules.{rules}
 use Rattle.read_volume.proofs.explained.Goals as goal
 
 pub returns-then-explains_both : goal.returns-then-explains_both

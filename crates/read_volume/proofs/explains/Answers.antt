@@ -1,5 +1,4 @@
 use Rattle.read_volume.proofs.Units.{explaining}
-use borrow.Author.Rules.{rules}
 use Rattle.read_volume.proofs.explains.Goals as goal
 
 pub returns-in-Unsaid : goal.returns-in-Unsaid

@@ -1,6 +1,5 @@
-use Rattle.read_volume.specs.Volume.{explained, explains_both}
+use Rattle.read_volume.specs.Volume.{explains_both}
 use Rattle.text.proofs.Told.{told}
-use borrow.Author.Rules.{rules}
 use Rattle.read_volume.proofs.explains_both.Goals as goal
 
 pub returns-then-not-explains : goal.returns-then-not-explains

@@ -1,5 +1,4 @@
 use Rattle.read_volume.proofs.Units.{shares}
-use borrow.Author.Rules.{rules}
 use Rattle.read_volume.proofs.explains_shares.Goals as goal
 
 pub returns-then-n-lt1 : goal.returns-then-n-lt1

@@ -1,5 +1,4 @@
 use Rattle.read_volume.proofs.Units.{tens}
-use borrow.Author.Rules.{rules}
 use Rattle.read_volume.proofs.explains_tens.Goals as goal
 
 pub returns-then-network-ne65 : goal.returns-then-network-ne65

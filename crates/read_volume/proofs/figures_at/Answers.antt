@@ -1,8 +1,4 @@
-use Prim.Native.Nat.{ℕ, suc, ◌+◌, ◌-◌, ◌*◌, ◌^◌, ◌≤◌, ◌<◌}
-use native.Mathlib.Omega.{arith}
-use mathlib.Core.Path.{◌≡◌, refl, sym, ap, ◌∙◌}
-use lib.ListN.{length, drop}
-use Rattle.read_volume.specs.Volume.{figures_onto}
+use mathlib.Core.Path.{refl}
 use Rattle.read_volume.proofs.Volumes.{figures_no, figures_on, figures_small, figures_twelve, figure_there, onto_room}
 use borrow.Author.Rules.{rules}
 use Rattle.read_volume.proofs.figures_at.Goals as goal

@@ -1,10 +1,7 @@
-use Prim.Native.Nat.{ℕ, suc, ◌+◌, ◌-◌, ◌*◌, ◌^◌, ◌≤◌, ◌<◌}
-use native.Mathlib.Omega.{arith}
-use mathlib.Core.Path.{◌≡◌, refl, sym, ap, ◌∙◌}
-use lib.ListN.{length, drop}
+use Prim.Native.Nat.{◌-◌, ◌^◌, ◌≤◌, ◌<◌}
+use mathlib.Core.Path.{◌≡◌}
+use lib.ListN.{drop}
 use Rattle.read_volume.specs.Volume.{figures_onto}
-use Rattle.read_volume.proofs.Volumes.{figures_no, figures_on, figures_small, figures_twelve, figure_there, onto_room}
-use borrow.Author.Rules.{rules}
 use Rattle.read_volume.proofs.figures_at.Given as goal
 
 abbrev pub invariant-loop-i : goal.invariant-loop-i

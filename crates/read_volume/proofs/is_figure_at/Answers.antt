@@ -1,5 +1,4 @@
 use Rattle.read_volume.proofs.Volumes.{places}
-use borrow.Author.Rules.{rules}
 use Rattle.read_volume.proofs.is_figure_at.Goals as goal
 
 pub returns-then-s-i : goal.returns-then-s-i

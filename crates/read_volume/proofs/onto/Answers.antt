@@ -1,5 +1,4 @@
 use Rattle.read_volume.proofs.Volumes.{onto_dot, onto_digit}
-use borrow.Author.Rules.{rules}
 use Rattle.read_volume.proofs.onto.Goals as goal
 
 pub returns-then-c-lt48 : goal.returns-then-c-lt48

@@ -1,5 +1,4 @@
 use Rattle.read_volume.proofs.Volumes.{volume_long, said_many, said_yes, said_no}
-use borrow.Author.Rules.{rules}
 use Rattle.text.proofs.Parts.{front_length, counted}
 use Rattle.read_volume.proofs.said.Goals as goal
 

@@ -1,5 +1,4 @@
 use Rattle.read_volume.proofs.Units.{counted}
-use borrow.Author.Rules.{rules}
 use Rattle.read_volume.proofs.shares_in.Goals as goal
 
 pub returns-in-Unsaid : goal.returns-in-Unsaid

@@ -1,6 +1,4 @@
 use Rattle.text.proofs.Tests.{picks}
-use mathlib.Core.Path.{refl}
-use borrow.Author.Rules.{rules}
 use Rattle.read_volume.proofs.tens_in.Goals as goal
 
 pub returns-then-n-le999 : goal.returns-then-n-le999

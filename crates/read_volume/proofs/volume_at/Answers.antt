@@ -1,6 +1,5 @@
 use native.Mathlib.Omega.{arith}
 use Rattle.read_volume.proofs.Volumes.{figures_count, figures_within, volume_hundreds, volume_tens, volume_shares, volume_none}
-use borrow.Author.Rules.{rules}
 use Rattle.read_volume.proofs.volume_at.Goals as goal
 
 pub slice_bounds-starts_with-count : goal.slice_bounds-starts_with-count

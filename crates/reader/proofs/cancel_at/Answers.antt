@@ -1,5 +1,4 @@
 use Rattle.reader.proofs.Prints.{cancel_is}
-use borrow.Author.Rules.{rules}
 use Rattle.reader.proofs.cancel_at.Goals as goal
 
 pub returns : goal.returns

@@ -1,6 +1,5 @@
 use Rattle.reader.proofs.Prints.{cancel_unnamed, cancel_unsided, cancel_sided}
 use Rattle.reader.proofs.Rooms.{head_room, head_fits, both_room, both_fit, name_short}
-use borrow.Author.Rules.{rules}
 use Rattle.reader.proofs.cancel_head.Goals as goal
 
 pub returns-in_default : goal.returns-in_default

@@ -1,5 +1,4 @@
 use Rattle.reader.proofs.Prints.{correction_is}
-use borrow.Author.Rules.{rules}
 use Rattle.reader.proofs.correction_at.Goals as goal
 
 pub returns : goal.returns

@@ -1,6 +1,5 @@
 use Rattle.reader.proofs.Prints.{correction_unnamed, correction_unsided, correction_sided}
 use Rattle.reader.proofs.Rooms.{head_room, head_fits, both_room, both_fit, name_short, name_room}
-use borrow.Author.Rules.{rules}
 use Rattle.reader.proofs.correction_head.Goals as goal
 
 pub returns-in_default : goal.returns-in_default

@@ -1,6 +1,4 @@
 use Rattle.reader.proofs.Prints.{end_closed, end_pair, end_none}
-use Rattle.reader.proofs.Rooms.{end_fits}
-use borrow.Author.Rules.{rules}
 use Rattle.reader.proofs.end_at.Goals as goal
 
 pub returns-then-x : goal.returns-then-x

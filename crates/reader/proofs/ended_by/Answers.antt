@@ -1,5 +1,4 @@
 use Rattle.reader.proofs.Prints.{ended_not, ended_is}
-use borrow.Author.Rules.{rules}
 use Rattle.reader.proofs.ended_by.Goals as goal
 
 pub returns-then-n-eq0 : goal.returns-then-n-eq0

@@ -1,6 +1,5 @@
 use Rattle.text.proofs.Told.{case}
 use Rattle.reader.specs.Told.{length_of}
-use borrow.Author.Rules.{rules}
 use Rattle.reader.proofs.length_of.Goals as goal
 
 pub returns-in-Announcement : goal.returns-in-Announcement

@@ -1,5 +1,4 @@
 use Rattle.reader.proofs.Bounds.{no_name_lem, from_fits, to_fits, name_within, name_is}
-use borrow.Author.Rules.{rules}
 use Rattle.reader.proofs.name_at.Goals as goal
 
 pub overflow_add-from : goal.overflow_add-from

@@ -1,6 +1,5 @@
 use Rattle.text.proofs.Told.{case}
 use Rattle.reader.specs.Told.{name_from}
-use borrow.Author.Rules.{rules}
 use Rattle.reader.proofs.name_from.Goals as goal
 
 pub returns-in-Announcement : goal.returns-in-Announcement

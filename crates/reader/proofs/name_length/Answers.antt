@@ -1,6 +1,5 @@
 use Rattle.text.proofs.Told.{case}
 use Rattle.reader.specs.Told.{name_length}
-use borrow.Author.Rules.{rules}
 use Rattle.reader.proofs.name_length.Goals as goal
 
 pub returns-in-Announcement : goal.returns-in-Announcement

@@ -1,6 +1,5 @@
 use Rattle.reader.proofs.Prints.{print_announced, print_corrected, print_cancelled, print_erred, print_traded}
 use Rattle.reader.proofs.Rooms.{correction_room, cancel_room, error_room}
-use borrow.Author.Rules.{rules}
 use Rattle.reader.proofs.print_at.Goals as goal
 
 pub returns-then-starts_with : goal.returns-then-starts_with

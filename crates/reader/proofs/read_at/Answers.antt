@@ -1,7 +1,6 @@
 use Rattle.reader.proofs.Prints.{read_is}
 use Rattle.reader.proofs.Bounds.{past_end}
 use Rattle.reader.proofs.Numbers.{answered}
-use borrow.Author.Rules.{rules}
 use Rattle.reader.proofs.read_at.Goals as goal
 
 pub returns-then-tape-place : goal.returns-then-tape-place

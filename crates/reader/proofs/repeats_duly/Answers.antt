@@ -1,5 +1,4 @@
 use Rattle.reader.proofs.Prints.{duly_again, duly_once}
-use borrow.Author.Rules.{rules}
 use Rattle.reader.proofs.repeats_duly.Goals as goal
 
 pub returns-then-repeats_name : goal.returns-then-repeats_name

@@ -1,5 +1,4 @@
 use Rattle.reader.proofs.Prints.{second_unduly, second_duly}
-use borrow.Author.Rules.{rules}
 use Rattle.reader.proofs.second_side.Goals as goal
 
 pub returns-then-not-repeats_duly : goal.returns-then-not-repeats_duly

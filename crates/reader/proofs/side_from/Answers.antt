@@ -1,5 +1,4 @@
 use Rattle.reader.proofs.Rooms.{side_cut}
-use borrow.Author.Rules.{rules}
 use Rattle.reader.proofs.side_from.Goals as goal
 
 pub returns : goal.returns

@@ -1,5 +1,4 @@
 use Rattle.reader.proofs.Rooms.{stands_cut}
-use borrow.Author.Rules.{rules}
 use Rattle.reader.proofs.stands.Goals as goal
 
 pub returns : goal.returns

@@ -1,5 +1,4 @@
 use Rattle.reader.proofs.Prints.{trade_is}
-use borrow.Author.Rules.{rules}
 use Rattle.reader.proofs.trade_at.Goals as goal
 
 pub returns : goal.returns

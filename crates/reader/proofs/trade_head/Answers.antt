@@ -1,7 +1,6 @@
 use Rattle.reader.proofs.Prints.{trade_unnamed, trade_unsided, trade_sided}
 use Rattle.reader.proofs.Rooms.{trade_fits}
 use Rattle.read_name.proofs.Bounds.{head_used}
-use borrow.Author.Rules.{rules}
 use Rattle.reader.proofs.trade_head.Goals as goal
 
 pub returns-in_default : goal.returns-in_default

@@ -1,11 +1,8 @@
 -- The loop's invariant: k digits are counted, and those of m are left, one of them counted already. Assumes nothing.
-use borrow.Author.Rules.{rules}
-use Prim.Native.Nat.{ℕ, suc, ◌+◌, ◌-◌, ◌*◌, ◌^◌, ◌≤◌, ◌<◌}
-use native.Mathlib.Omega.{arith}
-use mathlib.Core.Path.{◌≡◌, refl, sym, ap, ◌∙◌}
+use Prim.Native.Nat.{◌+◌, ◌≤◌}
+use mathlib.Core.Path.{◌≡◌}
 use lib.ListN.{length}
 use Rattle.text.specs.Decimal.{decimal}
-use Rattle.text.proofs.Decimal.{length_decimal, some_digits, one_more, counted_all}
 use Rattle.text.proofs.decimal_length.Given as goal
 
 abbrev pub invariant-loop-m : goal.invariant-loop-m

@@ -1,8 +1,5 @@
 use borrow.Author.Rules.{rules}
-use Prim.Native.Nat.{ℕ, suc, ◌+◌, ◌-◌, ◌*◌, ◌^◌, ◌≤◌, ◌<◌}
-use mathlib.Core.Path.{◌≡◌, refl, sym, ap, ◌∙◌}
-use lib.ListN.{length, drop}
-use Rattle.text.specs.Pick.{same}
+use mathlib.Core.Path.{refl}
 use Rattle.text.proofs.Texts.{unlike, alike, differ, ended}
 use Rattle.text.proofs.same_text.Goals as goal
 

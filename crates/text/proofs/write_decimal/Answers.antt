@@ -1,5 +1,4 @@
 use Rattle.text.proofs.Decimal.{as_decimal}
-use borrow.Author.Rules.{rules}
 use Rattle.text.proofs.write_decimal.Goals as goal
 
 pub returns : goal.returns

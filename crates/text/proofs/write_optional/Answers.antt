@@ -1,5 +1,4 @@
 use Rattle.text.proofs.Writing.{options}
-use borrow.Author.Rules.{rules}
 use Rattle.text.proofs.write_optional.Goals as goal
 
 pub write_bytes-requires : goal.write_bytes-requires

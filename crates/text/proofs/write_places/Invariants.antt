@@ -1,13 +1,10 @@
 -- The loop's invariant: the digits that are left, and then the tape from i on, are what is wanted. Assumes nothing.
-use borrow.Author.Rules.{rules}
-use Prim.Native.Nat.{ℕ, suc, ◌+◌, ◌-◌, ◌*◌, ◌^◌, ◌≤◌, ◌<◌}
-use native.Mathlib.Omega.{arith}
-use mathlib.Core.Path.{◌≡◌, refl, sym, ap, ◌∙◌}
+use Prim.Native.Nat.{◌≤◌}
+use mathlib.Core.Path.{◌≡◌}
 use mathlib.Core.List.{◌++◌}
-use lib.ListN.{length, take, drop, length-set}
-use Rattle.text.specs.Put.{put, Written}
+use lib.ListN.{length, drop}
+use Rattle.text.specs.Put.{put}
 use Rattle.text.specs.Decimal.{places}
-use Rattle.text.proofs.Decimal.{length_places, one_digit}
 use Rattle.text.proofs.write_places.Given as goal
 
 abbrev pub invariant-loop-i : goal.invariant-loop-i

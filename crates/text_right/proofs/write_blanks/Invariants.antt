@@ -1,11 +1,8 @@
 -- The loop's invariant: i blanks, then the bytes that were there. Assumes nothing.
 use Prim.Native.Nat.{◌-◌, ◌≤◌}
-use native.Mathlib.Numerals.{add-one}
-use mathlib.Core.Path.{◌≡◌, refl}
+use mathlib.Core.Path.{◌≡◌}
 use mathlib.Core.List.{◌++◌}
-use lib.ListN.{length, drop, replicate, length-set}
-use Rattle.text_right.proofs.Writes.{blank_on, blanks_done}
-use borrow.Author.Rules.{rules}
+use lib.ListN.{length, drop, replicate}
 use Rattle.text_right.proofs.write_blanks.Given as goal
 
 abbrev pub invariant-loop-i : goal.invariant-loop-i

@@ -1,6 +1,5 @@
 use Rattle.text.proofs.Writing.{joined}
 use Rattle.text_right.proofs.Writes.{right_parts, blanks_room, digits_room}
-use borrow.Author.Rules.{rules}
 use Rattle.text_right.proofs.write_right.Goals as goal
 
 pub write_blanks-at-requires : goal.write_blanks-at-requires
