@@ -1,4 +1,4 @@
-//! Links target/staticlib/libexports.a, which `rt staticlib exports` builds at the root of the repository.
+//! Links target/staticlib/libexports.a, which `tools/library` builds.
 
 use std::env::var_os;
 use std::path::PathBuf;
@@ -9,7 +9,7 @@ fn main() {
     let archive = folder.join("libexports.a");
     println!("cargo:rerun-if-changed={}", archive.display());
     if !archive.is_file() {
-        panic!("target/staticlib/libexports.a is missing: run `rt staticlib exports` at the root of the repository");
+        panic!("target/staticlib/libexports.a is missing: tools/library, at the root of the repository, builds it");
     }
     println!("cargo:rustc-link-search=native={}", folder.display());
     println!("cargo:rustc-link-lib=static=exports");

@@ -1,6 +1,5 @@
-/* The proved day engine and reader for the Low Speed Ticker, for C. `rt staticlib exports` builds
-   target/staticlib/libexports.a; the promises stand in crates/exports, crates/factnumbers and crates/readout as equations,
-   here in words.
+/* The proved day engine and reader for the Low Speed Ticker, for C. `tools/library` builds target/staticlib/libexports.a; the
+   promises stand in crates/exports_c, crates/exports, crates/facts_numbers and crates/read_numbers as equations, here in words.
 
    None of the functions requires anything of the values that it is handed: any line, any tape, any contents of the lent
    memory. The memory must be there: no pointer is NULL, also not one with length 0, and what a function writes to overlaps

@@ -1,4 +1,4 @@
-//! The declarations of crates/exports/src/lib.rt, and one safe function for each. Nothing compares the two files: they are
+//! The declarations of crates/exports_c/src/lib.rt, and one safe function for each. Nothing compares the two files: they are
 //! changed together.
 //!
 //! A `&[u8]` of Rattle passes as a pointer and a length, a reference to an array of fixed size as a pointer. None of the

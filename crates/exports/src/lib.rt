@@ -1,5 +1,5 @@
-// The engine and the reader for C and Rust: functions on numbers and lent memory, with no `requires`. An array of fixed size
-// passes as a pointer, a slice as a pointer and its length; what is lent for writing overlaps nothing else that is lent.
+// The engine and the reader for C and Rust: functions on numbers and lent memory, with no `requires`. `exports_c` is the static
+// library over them, which C and Rust link.
 #![tactic(auto)]
 
 ghost use Rattle.std.specs.Prelude.{◌≡◌};
@@ -89,8 +89,7 @@ fn read_answer(r: ReadAnswer) -> u64
 // ---- the exported functions
 
 // The settings of a fresh state: no D accepted yet.
-#[unsafe(no_mangle)]
-pub extern "C" fn lekphimon_fresh(settings: &mut [u64; 4])
+pub fn lekphimon_fresh(settings: &mut [u64; 4])
     ensures { settings.new ≡ numbers_of (opened 0) }
 {
     *settings = numbers_of(engine::fresh());
@@ -98,8 +97,7 @@ pub extern "C" fn lekphimon_fresh(settings: &mut [u64; 4])
 
 // One call: the number of the refusal, 0 where the line is accepted, and in `count` the length of the print, 0 at a refusal.
 // A refused line leaves settings, tables and tape as they were.
-#[unsafe(no_mangle)]
-pub extern "C" fn lekphimon_take_line(
+pub fn lekphimon_take_line(
     settings: &mut [u64; 4],
     table: &mut Table,
     names: &mut Names,
@@ -119,10 +117,9 @@ pub extern "C" fn lekphimon_take_line(
 }
 
 // What a call of `lekphimon_take_line` with this line and a tape of `room` bytes would add to the shown facts: the thirteen
-// numbers of `entry_numbers` (factnumbers): security, temporary suffix shown, kind, and of each side price, letters, days,
+// numbers of `entry_numbers` (facts_numbers): security, temporary suffix shown, kind, and of each side price, letters, days,
 // previous last and volume. Nothing of the day moves.
-#[unsafe(no_mangle)]
-pub extern "C" fn lekphimon_shown(
+pub fn lekphimon_shown(
     settings: &[u64; 4],
     table: &Table,
     names: &Names,
@@ -130,7 +127,7 @@ pub extern "C" fn lekphimon_shown(
     room: usize,
     numbers: &mut [u64; 13],
 )
-    ensures { numbers.new ≡ entry_numbers (shown_by (day_of (settings_of settings.now) table.now names.now) (record { line = line.entry.now; room = room })) }
+    ensures { numbers.new ≡ entry_numbers (shown_by (day_of (settings_of settings.now) table.now names.now) (record { line = line.now; room = room })) }
 {
     let st = settings_of(settings);
     let entry = facts_entry::entry_of(st, table, names, line, room);
@@ -138,10 +135,9 @@ pub extern "C" fn lekphimon_shown(
 }
 
 // The reader at a place: 0 where a print stands there, 14 where none does; its fourteen numbers are those of `numbers_at`
-// (readout): length, the name's place in the print and its length, kind, and of each side price, letters, days, previous
+// (read_numbers): length, the name's place in the print and its length, kind, and of each side price, letters, days, previous
 // last and volume.
-#[unsafe(no_mangle)]
-pub extern "C" fn lekphimon_read_at(tape: &[u8], place: usize, numbers: &mut [u64; 14]) -> u64
+pub fn lekphimon_read_at(tape: &[u8], place: usize, numbers: &mut [u64; 14]) -> u64
     ensures { ReadNumbers tape.now place numbers.new result }
 {
     let r = reader::read_at(tape, place);

@@ -5,7 +5,7 @@ use Rattle.text.specs.Pick.{pick}
 use Rattle.rules.specs.Shown.{Fact, announced, traded, cancelled, erred, corrected}
 use Rattle.read_numbers.specs.Numbers.{side_numbers, no_side, part_numbers, volume_number, kind_and_sides}
 
--- security, temporary suffix shown (1) or not, kind (A announcement, whose text is the print, T X E C as the lines, 0 for none), sides as the reader's (readout).
+-- security, temporary suffix shown (1) or not, kind (A announcement, whose text is the print, T X E C as the lines, 0 for none), sides as the reader's (read_numbers).
 -- Outside normal a side of a C, X or E has price and volume 0; 0 is the volume of a trade that shows none
 unfoldable pub entry_numbers : Option Fact → List ℕ
 entry_numbers none = 0 ∷ 0 ∷ kind_and_sides 0 no_side no_side

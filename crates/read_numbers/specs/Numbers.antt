@@ -24,7 +24,7 @@ side_numbers price c volume = record { price = price; letters = letters_number c
 abbrev pub no_side : SideNumbers
 no_side = record { price = 0; letters = 0; days = 0; previous = 0; volume = 0 }
 
--- a side of a normal print is in full; the shown facts (factnumbers) also have sides of conditions alone
+-- a side of a normal print is in full; the shown facts (facts_numbers) also have sides of conditions alone
 unfoldable pub part_numbers : Part → SideNumbers
 part_numbers (in_full price c volume) = side_numbers price c volume
 part_numbers (bare c) = side_numbers 0 c 0
