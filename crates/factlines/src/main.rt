@@ -1,6 +1,9 @@
 // The facts program: day lines on standard input, the lines of their shown facts on standard output. It reads, steps and writes;
 // what a step does, facts_step says.
-ghost use Rattle.std.specs.Prelude.{[], ◌≤◌, length};
+#![tactic(auto)]
+
+ghost use Rattle.std.specs.Prelude.{[], ◌≤◌, length, IsTrue, take};
+ghost use Rattle.std.specs.Io.KnownBytes.{Appends};
 ghost use Rattle.feed_input.specs.Place.{Within};
 ghost use Rattle.feed_step.specs.Session.{Turned};
 ghost use Rattle.facts_block.specs.Shows.{facts_program};
@@ -8,10 +11,12 @@ ghost use Rattle.facts_block.specs.Shows.{facts_program};
 use call_table::{NAMES_SIZE, Names, TABLE_SIZE, Table};
 use feed_step::{Standing, Stepped};
 use feed_trouble::TROUBLE_ROOM;
-use libc::{STDERR_FILENO, STDOUT_FILENO};
+use std::env::{Env, FillError};
+use std::io::{Read, Write};
 
 // One turn: a read, where one is asked for, and a step.
-fn turn(
+fn turn<R: Read>(
+    input: &mut R,
     s: Standing,
     table: &mut Table,
     names: &mut Names,
@@ -22,62 +27,86 @@ fn turn(
     ensures { Turned facts_program s table.old names.old block.old facts.old [] table.new names.new block.new facts.new [] result }
 {
     let place = s.place;
-    let answer = feed_refill::read_input(place, block);
+    let answer = feed_refill::read_input(input, place, block);
     facts_step::step(s, answer, table, names, block, facts)
 }
 
 // A read or a write failed, after so many lines of the input.
-fn say_trouble(reading: bool, after: u64) {
+fn say_trouble<E: Write>(errors: &mut E, reading: bool, after: u64) {
     let mut line = [0u8; TROUBLE_ROOM];
     let n = feed_trouble::write_trouble(&mut line, b"factlines", reading, b"line ", after);
-    io::write_all(STDERR_FILENO, &line[..n]);
+    let _ = errors.write_all(&line[..n]);
 }
 
 // Writes what a turn told, and answers whether standard output took all of it.
-fn write_out(facts: &[u8], n: usize, after: u64) -> bool
+fn write_out<W: Write, E: Write>(
+    out: &mut W,
+    errors: &mut E,
+    facts: &[u8],
+    n: usize,
+    after: u64,
+) -> bool
     requires { n ≤ length facts.now }
+    ensures { IsTrue result → Appends (W.contents out.old) (W.contents out.new) (take n facts.now) }
 {
-    if !io::write_all(STDOUT_FILENO, &facts[..n]) {
-        say_trouble(false, after);
+    if out.write_all(&facts[..n]).is_err() {
+        say_trouble(errors, false, after);
         return false;
     }
     true
 }
 
 // After the last turn.
-fn say_end(s: Standing) {
+fn say_end<E: Write>(errors: &mut E, s: Standing) {
     let place = s.place;
     if place.failed {
-        say_trouble(true, feed_step::lines_taken(s));
+        say_trouble(errors, true, feed_step::lines_taken(s));
     }
 }
 
 // Turns until a step is the last, or a write fails.
-fn run(table: &mut Table, names: &mut Names, block: &mut [u8], facts: &mut [u8]) {
+fn run<R: Read, W: Write, E: Write>(
+    input: &mut R,
+    out: &mut W,
+    errors: &mut E,
+    table: &mut Table,
+    names: &mut Names,
+    block: &mut [u8],
+    facts: &mut [u8],
+) {
     let mut s = feed_step::started();
     let mut turns = u64::MAX;
     while 0 < turns {
-        let r = turn(s, table, names, block, facts);
-        if !write_out(facts, r.out, feed_step::lines_taken(s)) {
+        let r = turn(input, s, table, names, block, facts);
+        if !write_out(out, errors, facts, r.out, feed_step::lines_taken(s)) {
             return;
         }
         s = r.standing;
         if r.over {
-            say_end(s);
+            say_end(errors, s);
             return;
         }
         turns -= 1;
     }
 }
 
-fn main() {
-    if 1 < os::arg_count() {
-        io::write_all(STDERR_FILENO, b"usage: factlines < day-file > facts\n");
+fn main(rt: HostRuntime) {
+    let mut errors = rt.stderr();
+    if !matches!(rt.arg(1, &mut []), Err(FillError::NotPresent)) {
+        let _ = errors.write_all(b"usage: factlines < day-file > facts\n");
         return;
     }
     let mut table = [0u64; TABLE_SIZE];
     let mut names = [0u8; NAMES_SIZE];
     let mut block = [0u8; 262144];
     let mut facts = [0u8; 65536];
-    run(&mut table, &mut names, &mut block, &mut facts);
+    run(
+        &mut rt.stdin(),
+        &mut rt.stdout(),
+        &mut errors,
+        &mut table,
+        &mut names,
+        &mut block,
+        &mut facts,
+    );
 }

@@ -1,19 +1,57 @@
-// Standard input, read into a block behind what is held. The programs share it.
-ghost use Rattle.std.specs.Prelude.{length};
+// Standard input, read into a block behind what is held; and a file, read into a block from its front. The programs share it.
+#![tactic(auto)]
+
+ghost use Rattle.std.specs.Prelude.{◌≤◌, length, take, drop};
+ghost use Rattle.std.specs.Io.KnownBytes.{Consumes};
 ghost use Rattle.feed_input.specs.Place.{Within};
-ghost use Rattle.feed_refill.specs.Read.{Reading};
+ghost use Rattle.feed_refill.specs.Read.{Reading, Taken};
 
 use feed_input::Place;
-use libc::STDIN_FILENO;
+use std::fs::File;
+use std::io::Read;
+use std::rt::Files;
 
 // One read, where a place asks for one: the answer as the system gave it. Where none is asked for, no call is made.
-pub fn read_input(p: Place, block: &mut [u8]) -> isize
+pub fn read_input<R: Read>(input: &mut R, p: Place, block: &mut [u8]) -> isize
     requires { Within p (length block.old) }
-    ensures { Reading p block.old block.new result }
+    ensures reading { Reading p block.old block.new result }
+    ensures taken { Taken p.asks result (R.remaining input.old) (R.remaining input.new) (drop p.have block.new) }
 {
     if !p.asks {
         return 0;
     }
     let have = p.have;
-    libc::read(STDIN_FILENO, &mut block[have..])
+    match input.read(&mut block[have..]) {
+        Ok(n) => n as isize,
+        Err(_) => -1,
+    }
+}
+
+// Reads until the block is full, the input ends or a read fails, and answers how many bytes came.
+fn read_full<R: Read>(input: &mut R, block: &mut [u8]) -> usize
+    ensures within { result ≤ length block.new }
+    ensures taken { Consumes (R.remaining input.old) (R.remaining input.new) (take result block.new) }
+{
+    let mut done = 0;
+    while done < block.len() {
+        match input.read(&mut block[done..]) {
+            Ok(0) | Err(_) => break,
+            Ok(n) => done += n,
+        }
+    }
+    done
+}
+
+// Reads the file of that name into the block and answers how many bytes came, 0 where it cannot be opened. What is not UTF-8 names
+// no file.
+pub fn read_file<F: Files>(files: &F, name: &[u8], block: &mut [u8]) -> usize
+    ensures { result ≤ length block.new }
+{
+    let Ok(path) = str::from_utf8(name) else {
+        return 0;
+    };
+    let Ok(mut file) = File::open(files, path) else {
+        return 0;
+    };
+    read_full(&mut file, block)
 }

@@ -2,10 +2,15 @@
 // what it tells is held to the stored answers, the file stdout: a line for each print, and for the refusal. Tapes 01 to 16 are
 // the vectors'; 17 is document 01's own; 18 to 22 are prints where a longer way fails, and one that is none; 23 to 44 are what
 // a greedy reading falls into, one each (docs/EXAMPLES.md lists them). A tape is shorter than 8,192 bytes.
-ghost use Rattle.std.specs.Prelude.{◌≡◌, ◌≤◌, ◌<◌, length};
+#![tactic(auto)]
+
+ghost use Rattle.std.specs.Prelude.{◌≡◌, ◌≤◌, ◌<◌, length, IsTrue};
+ghost use Rattle.std.specs.Io.KnownBytes.{Appends};
+ghost use Rattle.read_told.specs.Lines.{told_line};
 ghost use Rattle.tapes.specs.Names.{tape_name};
 
-use libc::STDOUT_FILENO;
+use std::io::Write;
+use std::rt::Files;
 
 // The name of tape n.
 fn tape_name(n: u8) -> [u8; 7]
@@ -16,20 +21,21 @@ fn tape_name(n: u8) -> [u8; 7]
 }
 
 // Writes the line of a place, and answers whether all of it was taken.
-fn show_print(tape: &[u8], place: usize, line: &mut [u8]) -> bool
+fn show_print<W: Write>(out: &mut W, tape: &[u8], place: usize, line: &mut [u8]) -> bool
     requires { (length tape.now ≤ 8192) × ((place < length tape.now) × (8704 ≤ length line.old)) }
+    ensures { IsTrue result → Appends (W.contents out.old) (W.contents out.new) (told_line tape.now place) }
 {
     let k = read_told::write_told(line, tape, place);
-    io::write_all(STDOUT_FILENO, &line[..k])
+    out.write_all(&line[..k]).is_ok()
 }
 
 // The prints of a tape from its front, up to its end or a refusal.
-fn show_tape(tape: &[u8], line: &mut [u8; 8704]) -> bool
+fn show_tape<W: Write>(out: &mut W, tape: &[u8], line: &mut [u8; 8704]) -> bool
     requires { length tape.now ≤ 8192 }
 {
     let mut place: usize = 0;
     while place < tape.len() {
-        if !show_print(tape, place, line) {
+        if !show_print(out, tape, place, line) {
             return false;
         }
         let answer = reader::read_at(tape, place);
@@ -43,42 +49,43 @@ fn show_tape(tape: &[u8], line: &mut [u8; 8704]) -> bool
 }
 
 // Those of the tape that the block's first n bytes are.
-fn show_front(block: &[u8], n: usize, line: &mut [u8; 8704]) -> bool
+fn show_front<W: Write>(out: &mut W, block: &[u8], n: usize, line: &mut [u8; 8704]) -> bool
     requires { (n ≤ 8192) × (n ≤ length block.now) }
 {
-    show_tape(&block[..n], line)
+    show_tape(out, &block[..n], line)
 }
 
 // Reads a tape into the block and answers its length, 0 where it cannot be opened.
-fn read_tape(path: &[u8], block: &mut [u8; 8192]) -> usize
+fn read_tape<F: Files>(files: &F, path: &[u8], block: &mut [u8; 8192]) -> usize
     ensures { result ≤ 8192 }
 {
-    let fd = os::open_read(path);
-    if fd < 0 {
-        return 0;
-    }
-    let got = io::read_full(fd, block);
-    libc::close(fd);
-    got
+    feed_refill::read_file(files, path, block)
 }
 
 // Reads a tape and shows its prints; answers false where it cannot be opened or its lines cannot be written.
-fn run_file(path: &[u8], block: &mut [u8; 8192], line: &mut [u8; 8704]) -> bool {
-    let n = read_tape(path, block);
+fn run_file<F: Files, W: Write>(
+    files: &F,
+    out: &mut W,
+    path: &[u8],
+    block: &mut [u8; 8192],
+    line: &mut [u8; 8704],
+) -> bool {
+    let n = read_tape(files, path, block);
     if n == 0 {
         return false;
     }
-    show_front(block, n, line)
+    show_front(out, block, n, line)
 }
 
 // Tapes 01 to 44, up to the first that fails.
-fn main() {
+fn main(rt: HostRuntime) {
+    let mut out = rt.stdout();
     let mut block = [0u8; 8192];
     let mut line = [0u8; 8704];
     let mut n: u8 = 1;
     while n <= 44 {
         let name = tape_name(n);
-        if !run_file(&name, &mut block, &mut line) {
+        if !run_file(&rt, &mut out, &name, &mut block, &mut line) {
             return;
         }
         n += 1;

@@ -1,7 +1,10 @@
 // The stored days: the engine runs over each day file of data/, and what it writes is held to the stored answers, the file
 // stdout: for each day its tape, a line feed, and its refused lines; behind them, for days 01 to 16, the lines of its shown
 // facts. A day file is shorter than 65,536 bytes.
-ghost use Rattle.std.specs.Prelude.{◌≡◌, ◌≤◌, ◌<◌, length, take, []};
+#![tactic(auto)]
+
+ghost use Rattle.std.specs.Prelude.{◌≡◌, ◌≤◌, ◌<◌, length, take, [], IsTrue, ◌++◌, ◌∷◌};
+ghost use Rattle.std.specs.Io.KnownBytes.{Appends};
 ghost use Rattle.rules.specs.Day.{opened};
 ghost use Rattle.feed_gather.specs.Gather.{started, block_taken, Stands};
 ghost use Rattle.feed_lines.specs.Feed.{day_program};
@@ -10,7 +13,8 @@ ghost use Rattle.vectors.specs.Names.{day_name};
 
 use call_table::{NAMES_SIZE, Names, TABLE_SIZE, Table};
 use feed_gather::Fed;
-use libc::STDOUT_FILENO;
+use std::io::Write;
+use std::rt::Files;
 
 // The name of day n.
 fn day_name(n: u8) -> [u8; 6]
@@ -53,20 +57,22 @@ fn take_day(
 }
 
 // Writes what was gathered, and answers whether all of it was taken.
-fn write_out(tape: &[u8], n: usize, refusals: &[u8], k: usize) -> bool
+fn write_out<W: Write>(out: &mut W, tape: &[u8], n: usize, refusals: &[u8], k: usize) -> bool
     requires { (n ≤ length tape.now) × (k ≤ length refusals.now) }
+    ensures { IsTrue result → Appends (W.contents out.old) (W.contents out.new) (take n tape.now ++ 10 ∷ take k refusals.now) }
 {
-    if !io::write_all(STDOUT_FILENO, &tape[..n]) {
+    if out.write_all(&tape[..n]).is_err() {
         return false;
     }
-    if !io::write_all(STDOUT_FILENO, b"\n") {
+    if out.write_all(b"\n").is_err() {
         return false;
     }
-    io::write_all(STDOUT_FILENO, &refusals[..k])
+    out.write_all(&refusals[..k]).is_ok()
 }
 
 // Takes the day that the block's first n bytes are, and writes what comes out.
-fn show_day(
+fn show_day<W: Write>(
+    out: &mut W,
     table: &mut Table,
     names: &mut Names,
     block: &[u8],
@@ -77,7 +83,7 @@ fn show_day(
     requires { n ≤ length block.now }
 {
     let f = take_day(table, names, &block[..n], tape, refusals);
-    write_out(tape, f.out, refusals, f.err)
+    write_out(out, tape, f.out, refusals, f.err)
 }
 
 // The lines of the day's shown facts, from a fresh state.
@@ -89,7 +95,8 @@ fn take_facts(table: &mut Table, names: &mut Names, day: &[u8], facts: &mut [u8]
 }
 
 // Writes them, of the day that the block's first n bytes are.
-fn show_facts(
+fn show_facts<W: Write>(
+    out: &mut W,
     table: &mut Table,
     names: &mut Names,
     block: &[u8],
@@ -100,24 +107,21 @@ fn show_facts(
 {
     let s = take_facts(table, names, &block[..n], facts);
     let k = s.out;
-    io::write_all(STDOUT_FILENO, &facts[..k])
+    out.write_all(&facts[..k]).is_ok()
 }
 
 // Reads a day file into the block and answers its length, 0 where it cannot be opened.
-fn read_day(path: &[u8], block: &mut [u8; 65536]) -> usize
+fn read_day<F: Files>(files: &F, path: &[u8], block: &mut [u8; 65536]) -> usize
     ensures { result ≤ 65536 }
 {
-    let fd = os::open_read(path);
-    if fd < 0 {
-        return 0;
-    }
-    let got = io::read_full(fd, block);
-    libc::close(fd);
+    let got = feed_refill::read_file(files, path, block);
     closed(block, got)
 }
 
 // Reads a day file and shows its day; answers false where it cannot be opened or what comes out cannot be written.
-fn run_file(
+fn run_file<F: Files, W: Write>(
+    files: &F,
+    out: &mut W,
     path: &[u8],
     table: &mut Table,
     names: &mut Names,
@@ -125,30 +129,34 @@ fn run_file(
     tape: &mut [u8; 65536],
     refusals: &mut [u8; 65536],
 ) -> bool {
-    let n = read_day(path, block);
+    let n = read_day(files, path, block);
     if n == 0 {
         return false;
     }
-    show_day(table, names, block, n, tape, refusals)
+    show_day(out, table, names, block, n, tape, refusals)
 }
 
 // The same of its shown facts.
-fn run_facts(
+fn run_facts<F: Files, W: Write>(
+    files: &F,
+    out: &mut W,
     path: &[u8],
     table: &mut Table,
     names: &mut Names,
     block: &mut [u8; 65536],
     facts: &mut [u8; 65536],
 ) -> bool {
-    let n = read_day(path, block);
+    let n = read_day(files, path, block);
     if n == 0 {
         return false;
     }
-    show_facts(table, names, block, n, facts)
+    show_facts(out, table, names, block, n, facts)
 }
 
 // Days 01 to 16, up to the first that fails.
-fn run_numbered(
+fn run_numbered<F: Files, W: Write>(
+    files: &F,
+    out: &mut W,
     table: &mut Table,
     names: &mut Names,
     block: &mut [u8; 65536],
@@ -158,10 +166,10 @@ fn run_numbered(
     let mut n: u8 = 1;
     while n <= 16 {
         let name = day_name(n);
-        if !run_file(&name, table, names, block, tape, refusals) {
+        if !run_file(files, out, &name, table, names, block, tape, refusals) {
             return false;
         }
-        if !run_facts(&name, table, names, block, tape) {
+        if !run_facts(files, out, &name, table, names, block, tape) {
             return false;
         }
         n += 1;
@@ -169,16 +177,27 @@ fn run_numbered(
     true
 }
 
-fn main() {
+fn main(rt: HostRuntime) {
+    let mut out = rt.stdout();
     let mut table = [0u64; TABLE_SIZE];
     let mut names = [0u8; NAMES_SIZE];
     let mut block = [0u8; 65536];
     let mut tape = [0u8; 65536];
     let mut refusals = [0u8; 65536];
-    if !run_numbered(&mut table, &mut names, &mut block, &mut tape, &mut refusals) {
+    if !run_numbered(
+        &rt,
+        &mut out,
+        &mut table,
+        &mut names,
+        &mut block,
+        &mut tape,
+        &mut refusals,
+    ) {
         return;
     }
     run_file(
+        &rt,
+        &mut out,
         b"trades.day",
         &mut table,
         &mut names,
@@ -187,6 +206,8 @@ fn main() {
         &mut refusals,
     );
     run_file(
+        &rt,
+        &mut out,
         b"corrections.day",
         &mut table,
         &mut names,
