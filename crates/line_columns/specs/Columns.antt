@@ -5,7 +5,7 @@ use Rattle.rules.specs.Columns.{between}
 
 -- what a column may hold, up to the byte `most`: behind a blank a blank or what is from `1` on, behind anything else what is from `0` on
 unfoldable pub goes_on : Bool → ℕ → ℕ → Bool
-goes_on behindBlank most c = between (pick behindBlank 49 48) most c || eqb c (pick behindBlank 32 48)
+goes_on behind_blank most c = between (pick behind_blank 49 48) most c || eqb c (pick behind_blank 32 48)
 
 -- the columns of one number from 1 up, or blanks alone; the first says whether the column before them is a blank
 unfoldable pub stands : Bool → List ℕ → Bool
