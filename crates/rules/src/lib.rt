@@ -2,6 +2,10 @@
 // and every rule, is in specs/, one module a section, in the document's order.
 #![tactic(auto)]
 
+ghost use Rattle.std.specs.Prelude.{◌≡◌};
+ghost use Rattle.rules.specs.Line.{mode_of};
+ghost use Rattle.rules.specs.Refusal.{number_of};
+
 // The columns of a day line (Day lines).
 pub const WIDTH: usize = 100;
 
@@ -40,6 +44,21 @@ pub enum Mode {
     Mpv,
 }
 
+impl Mode {
+    // N, D, R or P: normal, DVD, RPO, MPV.
+    #[tactic(auto, unfolding(crate::specs::Line::mode_of, text::specs::Pick::pick))]
+    pub fn of_letter(c: u64) -> Mode
+        ensures { result ≡ mode_of c }
+    {
+        match c {
+            68 => Mode::Dvd,
+            82 => Mode::Rpo,
+            80 => Mode::Mpv,
+            _ => Mode::Normal,
+        }
+    }
+}
+
 // n over ten to the power d (Day lines).
 #[derive(Clone, Copy)]
 pub struct Price {
@@ -70,6 +89,22 @@ pub struct Letters {
     pub j: bool,
     pub g: bool,
 }
+
+// A side with none of them.
+pub const NO_LETTERS: Letters = Letters {
+    o: false,
+    s: false,
+    l: false,
+    n: false,
+    m: false,
+    c: false,
+    k: false,
+    b: false,
+    t: false,
+    r: false,
+    j: false,
+    g: false,
+};
 
 // One side of a T, X, E or C line, from its volume to its previous last. Days and previous last are 0 where blank.
 #[derive(Clone, Copy)]
@@ -152,6 +187,31 @@ pub enum Refusal {
     DateOrder,
     Room,
     NoPrint,
+}
+
+// A refusal's number.
+impl From<Refusal> for u64 {
+    ghost from_gives = { λ r n. n ≡ number_of r };
+
+    #[tactic(auto, unfolding(crate::specs::Refusal::number_of))]
+    fn from(r: Refusal) -> u64 {
+        match r {
+            Refusal::Shape => 1,
+            Refusal::Kind => 2,
+            Refusal::NoDate => 3,
+            Refusal::Form => 4,
+            Refusal::Value => 5,
+            Refusal::NotEntered => 6,
+            Refusal::InUse => 7,
+            Refusal::Name => 8,
+            Refusal::SameName => 9,
+            Refusal::Conditions => 10,
+            Refusal::Unmatched => 11,
+            Refusal::DateOrder => 12,
+            Refusal::Room => 13,
+            Refusal::NoPrint => 14,
+        }
+    }
 }
 
 // The settings of a day; the date is 0 before a D line is accepted.

@@ -6,3 +6,4 @@ pub mod Parts
 pub mod Writing
 pub mod Decimal
 pub mod Reading
+pub mod Std

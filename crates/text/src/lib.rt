@@ -3,9 +3,10 @@
 #![tactic(auto)]
 
 ghost use Rattle.std.specs.Prelude.{◌≡◌, ◌≤◌, length};
-ghost use Rattle.text.specs.Pick.{opt, same};
+ghost use Rattle.text.specs.Pick.{among, opt, same};
 ghost use Rattle.text.specs.Put.{Written};
 ghost use Rattle.text.specs.Decimal.{places, decimal};
+ghost use Rattle.text.specs.Reading.{starts};
 
 // A byte as a number.
 pub fn wide(b: u8) -> u64
@@ -18,12 +19,8 @@ pub fn write_bytes(rest: &mut [u8], text: &[u8]) -> usize
     requires { length text.now ≤ length rest.old }
     ensures { Written text.now rest.old rest.new result }
 {
-    let mut i = 0;
-    while i < text.len() {
-        rest[i] = text[i];
-        i += 1;
-    }
-    i
+    rest[..text.len()].copy_from_slice(text);
+    text.len()
 }
 
 // The last k digits of n, zeros too.
@@ -31,10 +28,8 @@ pub fn write_places(rest: &mut [u8], n: u64, k: usize) -> usize
     requires { k ≤ length rest.old }
     ensures { Written (places k n) rest.old rest.new result }
 {
-    let mut i = k;
     let mut m = n;
-    while 0 < i {
-        i -= 1;
+    for i in (0..k).rev() {
         rest[i] = (48 + m % 10) as u8;
         m /= 10;
     }
@@ -66,35 +61,33 @@ pub fn write_decimal(rest: &mut [u8], n: u64) -> usize
 pub fn same_text(a: &[u8], b: &[u8]) -> bool
     ensures { result ≡ same a.now b.now }
 {
-    if a.len() != b.len() {
-        return false;
-    }
-    let mut i = 0;
-    while i < a.len() {
-        if a[i] != b[i] {
-            return false;
-        }
-        i += 1;
-    }
-    true
+    a == b
+}
+
+// The byte is one of the text's.
+pub fn is_among(c: u8, text: &[u8]) -> bool
+    ensures { result ≡ among c text.now }
+{
+    text.contains(&c)
+}
+
+// The text `front` stands at the front.
+pub fn begins(front: &[u8], text: &[u8]) -> bool
+    ensures { result ≡ starts front.now text.now }
+{
+    text.starts_with(front)
 }
 
 // A text that may be left out.
 pub fn optional_length(test: bool, text: &[u8]) -> usize
     ensures { (result ≡ length (opt test text.now)) × (result ≤ length text.now) }
 {
-    if test {
-        return text.len();
-    }
-    0 // left out
+    if test { text.len() } else { 0 }
 }
 
 pub fn write_optional(rest: &mut [u8], test: bool, text: &[u8]) -> usize
     requires { length (opt test text.now) ≤ length rest.old }
     ensures { Written (opt test text.now) rest.old rest.new result }
 {
-    if test {
-        return write_bytes(rest, text);
-    }
-    0 // nothing written
+    if test { write_bytes(rest, text) } else { 0 }
 }

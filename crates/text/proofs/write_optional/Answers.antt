@@ -7,5 +7,5 @@ write_bytes-requires c = search options
 pub returns-then-test : goal.returns-then-test
 returns-then-test c = search options
 
-pub returns : goal.returns
-returns c = search options
+pub returns-else-test : goal.returns-else-test
+returns-else-test c = search options

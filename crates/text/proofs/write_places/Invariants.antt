@@ -9,6 +9,3 @@ use Rattle.text.proofs.write_places.Given as goal
 
 abbrev pub invariant-loop-i : goal.invariant-loop-i
 invariant-loop-i l = (l.i ≤ l.k) × (places l.i l.m ++ drop l.i l.rest ≡ put (places l.k l.n) l.initial.rest) × (length l.rest ≡ length l.initial.rest)
-
-abbrev pub decreases-loop-i : goal.decreases-loop-i
-decreases-loop-i l = l.i
