@@ -7,3 +7,4 @@ pub mod Writing
 pub mod Decimal
 pub mod Reading
 pub mod Std
+pub mod Scans
