@@ -2,180 +2,115 @@
 #![tactic(auto)]
 
 ghost use Rattle.std.specs.Prelude.{◌≡◌, ◌≤◌, ◌<◌, length, drop};
-ghost use Rattle.text.specs.Pick.{among, all};
+ghost use Rattle.text.specs.Pick.{all};
 ghost use Rattle.text.specs.Reading.{span};
 ghost use Rattle.rules.specs.Tape.{is_letter};
 ghost use Rattle.rules.specs.Columns.{blank, is_root};
-ghost use Rattle.rules.specs.Line.{is_printable, is_kind, is_market, is_network, is_mode, mode_of};
-
-use rules::Mode;
+ghost use Rattle.rules.specs.Line.{is_printable, is_kind, is_market, is_network, is_mode};
 
 // ---- texts
 
-// Columns without a field are blank.
+// Columns without a field are blank. Every column is looked at, so that many are compared at once.
 pub fn is_blank_part(part: &[u8]) -> bool
     ensures { result ≡ blank part.now }
 {
     let mut marks: u8 = 0;
-    let mut i = 0;
-    while i < part.len() {
-        if part[i] != b' ' {
+    for &c in part {
+        if c != b' ' {
             marks = 1;
         }
-        i += 1;
     }
     marks == 0
 }
 
 // 48 columns, sixteen at once.
+#[tactic(auto, using(crate::proofs::Texts::blank_parts))]
 pub fn is_blank_rest(part: &[u8]) -> bool
     requires { length part.now ≡ 48 }
     ensures { result ≡ blank part.now }
 {
-    if !is_blank_part(&part[0..16]) {
-        return false;
-    }
-    if !is_blank_part(&part[16..32]) {
-        return false;
-    }
-    is_blank_part(&part[32..48])
+    is_blank_part(&part[..16]) && is_blank_part(&part[16..32]) && is_blank_part(&part[32..48])
 }
 
+#[tactic(auto, unfolding(rules::specs::Line::is_printable, rules::specs::Columns::between))]
 fn is_printable(c: u8) -> bool
     ensures { result ≡ is_printable c }
 {
-    if c < 32 {
-        return false;
-    }
-    c <= 126
+    matches!(c, b' '..=b'~')
 }
 
-// Every byte is one of 32..126.
+// Every byte is one of 32..126; here too each is looked at.
 pub fn is_printable_text(text: &[u8]) -> bool
     ensures { result ≡ all is_printable text.now }
 {
     let mut others: u8 = 0;
-    let mut i = 0;
-    while i < text.len() {
-        if !is_printable(text[i]) {
+    for &c in text {
+        if !is_printable(c) {
             others = 1;
         }
-        i += 1;
     }
     others == 0
 }
 
+#[tactic(auto, unfolding(rules::specs::Tape::is_letter))]
 fn is_letter(c: u8) -> bool
     ensures { result ≡ is_letter c }
 {
-    if c < b'A' {
-        return false;
-    }
-    c <= b'Z'
+    c.is_ascii_uppercase()
 }
 
 // How many letters A-Z stand at the field's start.
 fn letters_ahead(field: &[u8]) -> usize
     ensures { (result ≤ length field.now) × ((span is_letter field.now).rest ≡ drop result field.now) }
 {
-    let mut i = 0;
-    while i < field.len() {
-        if !is_letter(field[i]) {
-            return i;
-        }
-        i += 1;
-    }
-    i
+    field
+        .iter()
+        .position(|&c| !is_letter(c))
+        .unwrap_or(field.len())
 }
 
 // A root: letters A-Z from the left, one at least, then blanks.
+#[tactic(auto, using(crate::proofs::Texts::filled_by), unfolding(rules::specs::Columns::is_root))]
 pub fn is_root(field: &[u8]) -> bool
     requires { 0 < length field.now }
     ensures { result ≡ is_root field.now }
 {
-    if !is_letter(field[0]) {
-        return false;
-    }
-    let k = letters_ahead(field);
-    is_blank_part(&field[k..])
+    is_letter(field[0]) && is_blank_part(&field[letters_ahead(field)..])
 }
 
 // ---- single letters
 
-// The byte is one of the group's.
-pub fn is_among(c: u8, group: &[u8]) -> bool
-    ensures { result ≡ among c group.now }
-{
-    let mut i = 0;
-    while i < group.len() {
-        if group[i] == c {
-            return true;
-        }
-        i += 1;
-    }
-    false
-}
-
 // The nine kinds.
+#[tactic(auto, unfolding(rules::specs::Line::is_kind, text::specs::Pick::among))]
 pub fn is_kind(c: u8) -> bool
     ensures { result ≡ is_kind c }
 {
-    match c {
-        b'D' => true,
-        b'S' => true,
-        b'M' => true,
-        b'V' => true,
-        b'P' => true,
-        b'T' => true,
-        b'X' => true,
-        b'E' => true,
-        b'C' => true,
-        _ => false,
-    }
+    matches!(
+        c,
+        b'D' | b'S' | b'M' | b'V' | b'P' | b'T' | b'X' | b'E' | b'C'
+    )
 }
 
+#[tactic(auto, unfolding(rules::specs::Line::is_market, text::specs::Pick::among))]
 pub fn is_market(c: u8) -> bool
     ensures { result ≡ is_market c }
 {
-    match c {
-        b'A' => true,
-        b'B' => true,
-        b'W' => true,
-        b'M' => true,
-        b'C' => true,
-        b'D' => true,
-        b'T' => true,
-        b'N' => true,
-        b'P' => true,
-        b'X' => true,
-        _ => false,
-    }
+    matches!(
+        c,
+        b'A' | b'B' | b'W' | b'M' | b'C' | b'D' | b'T' | b'N' | b'P' | b'X'
+    )
 }
 
+#[tactic(auto, unfolding(rules::specs::Line::is_network, text::specs::Pick::among))]
 pub fn is_network(c: u8) -> bool
     ensures { result ≡ is_network c }
 {
-    is_among(c, b"AB")
+    matches!(c, b'A' | b'B')
 }
 
+#[tactic(auto, unfolding(rules::specs::Line::is_mode, text::specs::Pick::among))]
 pub fn is_mode(c: u8) -> bool
     ensures { result ≡ is_mode c }
 {
-    is_among(c, b"NDRP")
-}
-
-// N, D, R or P: normal, DVD, RPO, MPV.
-pub fn mode_of(c: u8) -> Mode
-    ensures { result ≡ mode_of c }
-{
-    if c == b'D' {
-        return Mode::Dvd;
-    }
-    if c == b'R' {
-        return Mode::Rpo;
-    }
-    if c == b'P' {
-        return Mode::Mpv;
-    }
-    Mode::Normal
+    matches!(c, b'N' | b'D' | b'R' | b'P')
 }
