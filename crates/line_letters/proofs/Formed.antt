@@ -1,10 +1,9 @@
 -- Laws of fields with one letter at most. Assumes nothing.
-use Prim.Native.Nat.{ℕ, ◌<◌}
+use Prim.Native.Nat.{ℕ, ◌≤◌, ◌<◌}
 use native.Mathlib.Omega.{arith}
 use mathlib.Core.Path.{◌≡◌, refl, sym, ap, ◌∙◌, subst}
 use mathlib.Core.Bool.{Bool, true, false, ◌&&◌}
 use mathlib.Core.List.{List, [], ◌∷◌}
-use lib.Dec.{eqb}
 use lib.ListN.{length, get_or, drop, drop_of_length-le}
 use lib.Seq.{drop-cons}
 use borrow.Author.Tests.{eq-eqb, ne_eqb, eqb-true}
@@ -12,6 +11,7 @@ use Rattle.text.specs.Pick.{pick, all, among}
 use Rattle.text.specs.Reading.{span}
 use Rattle.text.proofs.Texts.{and_left}
 use Rattle.rules.specs.Columns.{is_blank, blank, filled}
+use Rattle.line_fields.proofs.Texts.{filled_by}
 use Rattle.rules.specs.Conditions.{is_condition, letters_formed}
 
 first_blank : (c : ℕ) (s : List ℕ) → blank (c ∷ s) ≡ true → c ≡ 32
@@ -45,26 +45,26 @@ one_formed c s h k false e = sym (other_formed c s e ∙ no_blank)
     no_blank : (is_blank c && blank s) ≡ false
     no_blank = rw (ne_eqb c 32 k)
 
--- a is what the test of the columns behind the first told
-module _ (s : List ℕ) (a : Bool) (h : a ≡ true → (length s ≡ 4) × (blank (drop 1 s) ≡ true)) (t : a ≡ true) where
-  pub first_in : 0 < length s
-  first_in = let l = (h t).0 in omega arith
-
+-- four columns, the last three of them blank
+module _ (s : List ℕ) (l : 4 ≤ length s) (m : length s < 5) (a : get_or s 1 0 ≡ 32) (b : get_or s 2 0 ≡ 32) (c : get_or s 3 0 ≡ 32) where
   split : s ≡ get_or s 0 0 ∷ drop 1 s
-  split = drop-cons s 0 0 first_in
+  split = drop-cons s 0 0 (omega arith)
 
-  pub formed_none : get_or s 0 0 ≡ 32 → true ≡ letters_formed s
+  behind_blank : blank (drop 1 s) ≡ true
+  unfolding blank all is_blank
+  behind_blank = rw (drop-cons s 1 0 (omega arith), drop-cons s 2 0 (omega arith), drop-cons s 3 0 (omega arith), drop_of_length-le s {i = 4} (omega arith), a, b, c)
+
+  pub formed_none : get_or s 0 0 ≡ 32 → letters_formed s ≡ true
   unfolding blank all is_blank
   formed_none e =
-      let z : blank s ≡ true = ap blank split ∙ rw (eq-eqb (get_or s 0 0) 32 e) (h t).1 in
-      sym (blank_formed s z)
+      let z : blank s ≡ true = ap blank split ∙ rw (eq-eqb (get_or s 0 0) 32 e) behind_blank in
+      blank_formed s z
 
-  pub formed_one : (r : Bool) → (get_or s 0 0 ≡ 32 → ⊥) → r ≡ is_condition (get_or s 0 0) → r ≡ letters_formed s
-  formed_one r k e = one_formed (get_or s 0 0) (drop 1 s) (h t).1 k r (sym e) ∙ ap letters_formed (sym split)
+  pub formed_one : (get_or s 0 0 ≡ 32 → ⊥) → letters_formed s ≡ is_condition (get_or s 0 0)
+  formed_one k = ap letters_formed split ∙ sym (one_formed (get_or s 0 0) (drop 1 s) behind_blank k _ refl)
 
-pub many : (s : List ℕ) → false ≡ true → (length s ≡ 4) × (blank (drop 1 s) ≡ true)
-many s h = let q : ◌≡◌ {A = ℕ} 0 1 = cc in absurd (omega arith)
+pub as_filled : (s : List ℕ) → letters_formed s ≡ filled is_condition s
+unfolding letters_formed
+as_filled s = refl
 
-pub few : (s : List ℕ) → length s ≡ 4 → get_or s 1 0 ≡ 32 → get_or s 2 0 ≡ 32 → eqb (get_or s 3 0) 32 ≡ true → blank (drop 1 s) ≡ true
-unfolding blank all is_blank
-few s l a b c = rw (drop-cons s 1 0 (omega arith), drop-cons s 2 0 (omega arith), drop-cons s 3 0 (omega arith), drop_of_length-le s {i = 4} (omega arith), eq-eqb (get_or s 1 0) 32 a, eq-eqb (get_or s 2 0) 32 b, c)
+pub ruleset formed = (formed_none, formed_one, as_filled, filled_by)

@@ -1,13 +1,14 @@
 -- Laws of condition letters: the loops over a field's word, i bytes of which are passed; x is the answer. Assumes nothing.
-use Prim.Native.Nat.{ℕ, suc, ◌+◌, ◌-◌, ◌≤◌, ◌<◌}
+use Prim.Native.Nat.{ℕ, zero, suc, ◌+◌, ◌-◌, ◌≤◌, ◌<◌}
 use native.Mathlib.Numerals.{add-one}
 use native.Mathlib.Omega.{arith}
-use mathlib.Core.Path.{◌≡◌, refl, sym, ◌∙◌}
-use mathlib.Core.Bool.{Bool, true, false}
+use mathlib.Core.Path.{◌≡◌, refl}
+use mathlib.Core.Bool.{Bool, true, false, not, ◌&&◌, ◌||◌}
 use mathlib.Core.List.{List, [], ◌∷◌}
 use lib.Dec.{eqb}
-use lib.ListN.{length, get_or, take, drop}
-use borrow.Author.Tests.{eq-eqb, ne_eqb}
+use lib.ListN.{length, get_or, take, drop, drop_of_length-le}
+use lib.Seq.{drop-cons}
+use Rattle.std.specs.List.{list_any, AllWithin, HoldsAt}
 use Rattle.text.specs.Bytes.{bytes}
 use Rattle.text.specs.Pick.{pick, among}
 use Rattle.text.specs.Reading.{span}
@@ -17,83 +18,44 @@ use Rattle.rules.specs.declared.Letters.{Letters}
 use Rattle.rules.specs.Columns.{word}
 use Rattle.rules.specs.Conditions.{letters_in, unrepeated, none_of, at_most_one, lawful_letters}
 use Rattle.rules.proofs.Fields.{word_byte}
-use Rattle.line_fields.proofs.Texts.{word_stop, word_more, word_end}
-
--- ---- a letter stands in the word
-
-module _ (c : ℕ) (s : List ℕ) (i : ℕ) (x : Bool) (e : among c (word (drop i s)) ≡ x) where
-  pub has_stop : i < length s → get_or s i 0 ≡ 32 → false ≡ x
-  unfolding among
-  has_stop h q = rw (← e, word_stop s i h q)
-
-  pub has_yes : i < length s → (get_or s i 0 ≡ 32 → ⊥) → get_or s i 0 ≡ c → true ≡ x
-  unfolding among
-  has_yes h k q = rw (← e, word_more s i h k, eq-eqb c _ (sym q))
-
-  pub has_more : i < length s → (get_or s i 0 ≡ 32 → ⊥) → (get_or s i 0 ≡ c → ⊥) → among c (word (drop (i + 1) s)) ≡ x
-  unfolding among
-  has_more h k q = rw (← e, word_more s i h k, ne_eqb c _ (λ f. q (sym f)), add-one)
-
-  pub has_end : length s ≤ i → false ≡ x
-  unfolding among
-  has_end h = rw (← e, word_end s i h)
+use Rattle.line_fields.proofs.Texts.{word_stop, word_more}
 
 -- ---- no letter twice
 
-module _ (s : List ℕ) (i : ℕ) (x : Bool) (e : unrepeated (word (drop i s)) ≡ x) where
-  pub unrepeated_stop : i < length s → get_or s i 0 ≡ 32 → true ≡ x
-  unfolding unrepeated
-  unrepeated_stop h q = rw (← e, word_stop s i h q)
+pub unrepeated_here : (s : List ℕ) (i : ℕ) → i < length s → unrepeated (drop i s) ≡ (not (among (get_or s i 0) (drop (i + 1) s)) && unrepeated (drop (i + 1) s))
+unfolding unrepeated
+unrepeated_here s i h = rw (drop-cons s i 0 h, add-one)
 
-  pub unrepeated_no : (r : Bool) → i < length s → (get_or s i 0 ≡ 32 → ⊥) → r ≡ among (get_or s i 0) (word (take (length s - (i + 1)) (drop (i + 1) s))) → r ≡ true → false ≡ x
-  unfolding unrepeated
-  unrepeated_no r h k q t = rw (← e, word_more s i h k, ← add-one, ← rest_is s (i + 1), ← q, t)
-
-  pub unrepeated_more : (r : Bool) → i < length s → (get_or s i 0 ≡ 32 → ⊥) → r ≡ among (get_or s i 0) (word (take (length s - (i + 1)) (drop (i + 1) s))) → r ≡ false → unrepeated (word (drop (i + 1) s)) ≡ x
-  unfolding unrepeated
-  unrepeated_more r h k q t =
-      let f : r ≡ among (get_or s i 0) (word (drop (suc i) s)) = rw (rest_is s (i + 1), add-one i) at q in
-      rw (← e, word_more s i h k, ← f, t, add-one)
-
-  pub unrepeated_end : length s ≤ i → true ≡ x
-  unfolding unrepeated
-  unrepeated_end h = rw (← e, word_end s i h)
+pub unrepeated_end : (s : List ℕ) (i : ℕ) → length s ≤ i → unrepeated (drop i s) ≡ true
+unfolding unrepeated
+unrepeated_end s i h = rw (drop_of_length-le s h)
 
 -- ---- a group's letters
 
-module _ (g s : List ℕ) (i : ℕ) (x : Bool) (e : none_of g (word (drop i s)) ≡ x) where
-  pub none_stop : i < length s → get_or s i 0 ≡ 32 → true ≡ x
+module _ (g : List ℕ) where
+  pub none_any : (s : List ℕ) → not (list_any (λ c. among c g) s) ≡ none_of g s
   unfolding none_of
-  none_stop h q = rw (← e, word_stop s i h q)
+  none_any [] = refl
+  none_any (c ∷ s) = rw (← none_any s) (go (among c g) (list_any (λ c. among c g) s))
+    where
+      go : (a b : Bool) → not (a || b) ≡ (not a && not b)
+      go true b = refl
+      go false b = refl
 
-  pub none_no : (r : Bool) → i < length s → (get_or s i 0 ≡ 32 → ⊥) → r ≡ among (get_or s i 0) g → r ≡ true → false ≡ x
-  unfolding none_of
-  none_no r h k q t = rw (← e, word_more s i h k, ← q, t)
-
-  pub none_more : (r : Bool) → i < length s → (get_or s i 0 ≡ 32 → ⊥) → r ≡ among (get_or s i 0) g → r ≡ false → none_of g (word (drop (i + 1) s)) ≡ x
-  unfolding none_of
-  none_more r h k q t = rw (← e, word_more s i h k, ← q, t, add-one)
-
-  pub none_end : length s ≤ i → true ≡ x
-  unfolding none_of
-  none_end h = rw (← e, word_end s i h)
-
-module _ (g s : List ℕ) (i : ℕ) (x : Bool) (e : at_most_one g (word (drop i s)) ≡ x) where
-  pub most_stop : i < length s → get_or s i 0 ≡ 32 → true ≡ x
-  unfolding at_most_one
-  most_stop h q = rw (← e, word_stop s i h q)
-
-  pub most_one : (r n : Bool) → i < length s → (get_or s i 0 ≡ 32 → ⊥) → r ≡ among (get_or s i 0) g → r ≡ true → n ≡ none_of g (word (take (length s - (i + 1)) (drop (i + 1) s))) → n ≡ x
+  -- behind letters of which none is the group's
+  behind : (s : List ℕ) (i : ℕ) → i ≤ length s → AllWithin (λ c. among c g ≡ false) s 0 i → at_most_one g s ≡ at_most_one g (drop i s)
   unfolding at_most_one pick
-  most_one r n h k q t f = rw (← e, word_more s i h k, ← q, t, ← add-one) (rw (rest_is s (i + 1)) at f)
+  behind s zero h a = refl
+  behind [] (suc i) h a = absurd (omega arith)
+  behind (c ∷ s) (suc i) h a = rw (a 0 0 (omega arith) (omega arith)) (behind s i (omega arith) (λ k d l m. a (suc k) d (omega arith) (omega arith)))
 
-  pub most_more : (r : Bool) → i < length s → (get_or s i 0 ≡ 32 → ⊥) → r ≡ among (get_or s i 0) g → r ≡ false → at_most_one g (word (drop (i + 1) s)) ≡ x
+  pub most_one : (s : List ℕ) (i : ℕ) (r : Bool) → (i < length s) × HoldsAt (λ c. among c g ≡ true) s i × AllWithin (λ c. among c g ≡ false) s 0 i → r ≡ none_of g (take (length s - (i + 1)) (drop (i + 1) s)) → r ≡ at_most_one g s
   unfolding at_most_one pick
-  most_more r h k q t = rw (← e, word_more s i h k, ← q, t, add-one)
+  most_one s i r (l, y, n) e = rw (behind s i (omega arith) n, drop-cons s i 0 l, y 0, ← add-one) (rw (rest_is s (i + 1)) at e)
 
-  pub most_end : length s ≤ i → true ≡ x
+  pub most_none : (s : List ℕ) → AllWithin (λ c. among c g ≡ false) s 0 (length s) → true ≡ at_most_one g s
   unfolding at_most_one
-  most_end h = rw (← e, word_end s i h)
+  most_none s n = rw (behind s (length s) (omega arith) n, drop_of_length-le s {i = length s} (omega arith))
 
 -- ---- the field
 
@@ -101,17 +63,9 @@ some : (s : List ℕ) → 1 < length s → 0 < length s
 some s h = omega (arith, h)
 
 -- a field whose first column is blank has no letters
-pub none_are : (record { o = false; s = false; l = false; n = false; m = false; c = false; k = false; b = false; t = false; r = false; j = false; g = false }) ≡ letters_in []
-unfolding letters_in among word span
-none_are = refl
-
-word_none : word [] ≡ []
-unfolding word span
-word_none = refl
-
-pub no_letters_lem : (s : List ℕ) (r : Letters) → 1 < length s → get_or s 0 0 ≡ 32 → r ≡ letters_in [] → r ≡ letters_in s
+pub no_letters : (s : List ℕ) → 1 < length s → get_or s 0 0 ≡ 32 → (record { o = false; s = false; l = false; n = false; m = false; c = false; k = false; b = false; t = false; r = false; j = false; g = false }) ≡ letters_in s
 unfolding letters_in among
-no_letters_lem s r h q e = e ∙ rw (word_stop s 0 (some s h) q, word_none)
+no_letters s h q = rw (word_stop s 0 (some s h) q)
 
 pub lawful_none : (s : List ℕ) → 1 < length s → get_or s 0 0 ≡ 32 → true ≡ lawful_letters s
 unfolding lawful_letters unrepeated at_most_one

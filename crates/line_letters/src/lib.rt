@@ -1,116 +1,52 @@
 // Condition letters in a field of four columns (document 01, "Day lines", "Price and conditions"): formed, as a set, lawful together.
 #![tactic(auto)]
 
-ghost use Rattle.std.specs.Prelude.{◌≡◌, true, [], ◌∷◌, ◌≤◌, ◌<◌, length, get_or, drop};
-ghost use Rattle.text.specs.Pick.{among};
+ghost use Rattle.std.specs.Prelude.{◌≡◌, ◌∷◌, [], ◌≤◌, ◌<◌, length, get_or, drop};
 ghost use Rattle.text.specs.Reading.{span};
-ghost use Rattle.rules.specs.Columns.{blank, word};
+ghost use Rattle.rules.specs.Columns.{word};
 ghost use Rattle.rules.specs.Conditions.{is_condition, letters_formed, letters_in, unrepeated, none_of, at_most_one, lawful_letters};
 
-use rules::Letters;
+use rules::{Letters, NO_LETTERS};
 
 // ---- condition letters: four columns, filled from the left
 
+#[tactic(auto, unfolding(rules::specs::Conditions::is_condition, text::specs::Pick::among))]
 fn is_condition(c: u8) -> bool
     ensures { result ≡ is_condition c }
 {
-    match c {
-        b'O' => true,
-        b'S' => true,
-        b'L' => true,
-        b'N' => true,
-        b'M' => true,
-        b'C' => true,
-        b'K' => true,
-        b'B' => true,
-        b'T' => true,
-        b'R' => true,
-        b'J' => true,
-        b'G' => true,
-        _ => false,
-    }
+    matches!(
+        c,
+        b'O' | b'S' | b'L' | b'N' | b'M' | b'C' | b'K' | b'B' | b'T' | b'R' | b'J' | b'G'
+    )
 }
 
 // How many condition letters stand at the field's start.
 fn conditions_ahead(field: &[u8]) -> usize
     ensures { (result ≤ length field.now) × ((span is_condition field.now).rest ≡ drop result field.now) }
 {
-    let mut i = 0;
-    while i < field.len() {
-        if !is_condition(field[i]) {
-            return i;
-        }
-        i += 1;
-    }
-    i
-}
-
-// Four columns, the last three of them blank.
-fn has_one_at_most(field: &[u8]) -> bool
-    ensures { result ≡ true → ((length field.now ≡ 4) × (blank (drop 1 field.now) ≡ true)) }
-{
-    if field.len() != 4 {
-        return false;
-    }
-    if field[1] != b' ' {
-        return false;
-    }
-    if field[2] != b' ' {
-        return false;
-    }
-    field[3] == b' '
+    field
+        .iter()
+        .position(|&c| !is_condition(c))
+        .unwrap_or(field.len())
 }
 
 // Condition letters from the left, then blanks; most fields are blank, or hold one.
+#[tactic(auto, using(crate::proofs::Formed::formed))]
 pub fn letters_formed(field: &[u8]) -> bool
     ensures { result ≡ letters_formed field.now }
 {
-    if has_one_at_most(field) {
-        let c = field[0];
-        if c == b' ' {
-            return true;
-        }
-        return is_condition(c);
+    match field {
+        [c, b' ', b' ', b' '] => *c == b' ' || is_condition(*c),
+        _ => line_fields::is_blank_part(&field[conditions_ahead(field)..]),
     }
-    let at = conditions_ahead(field);
-    line_fields::is_blank_part(&field[at..])
 }
 
-// The letter stands before the field's first blank.
-fn has_letter(field: &[u8], c: u8) -> bool
-    ensures { result ≡ among c (word field.now) }
+// The letters before the field's first blank.
+fn word(field: &[u8]) -> &[u8]
+    ensures { result.now ≡ word field.now }
 {
-    let mut i = 0;
-    while i < field.len() {
-        let b = field[i];
-        if b == b' ' {
-            return false;
-        }
-        if b == c {
-            return true;
-        }
-        i += 1;
-    }
-    false
-}
-
-fn no_letters() -> Letters
-    ensures { result ≡ letters_in [] }
-{
-    Letters {
-        o: false,
-        s: false,
-        l: false,
-        n: false,
-        m: false,
-        c: false,
-        k: false,
-        b: false,
-        t: false,
-        r: false,
-        j: false,
-        g: false,
-    }
+    let end = field.iter().position(|&c| c == b' ').unwrap_or(field.len());
+    &field[..end]
 }
 
 // The letters of a field that holds no more than this one.
@@ -135,17 +71,20 @@ fn only_letter(x: u8) -> Letters
 }
 
 // The letters of a field that holds one at most, in its first column.
+#[tactic(auto, using(crate::proofs::Letters::no_letters, crate::proofs::Letters::only_letters))]
 pub fn first_letter(field: &[u8]) -> Letters
     requires { (1 < length field.now) × (get_or field.now 1 0 ≡ 32) }
     ensures { result ≡ letters_in field.now }
 {
     if field[0] == b' ' {
-        return no_letters();
+        NO_LETTERS
+    } else {
+        only_letter(field[0])
     }
-    only_letter(field[0])
 }
 
 // The letters that stand in a field; most fields are blank, or hold one.
+#[tactic(auto, unfolding(rules::specs::Conditions::letters_in))]
 pub fn letters_in(field: &[u8]) -> Letters
     requires { 1 < length field.now }
     ensures { result ≡ letters_in field.now }
@@ -153,95 +92,62 @@ pub fn letters_in(field: &[u8]) -> Letters
     if field[1] == b' ' {
         return first_letter(field);
     }
-    if field[0] == b' ' {
-        return no_letters();
-    }
+    let letters = word(field);
     Letters {
-        o: has_letter(field, b'O'),
-        s: has_letter(field, b'S'),
-        l: has_letter(field, b'L'),
-        n: has_letter(field, b'N'),
-        m: has_letter(field, b'M'),
-        c: has_letter(field, b'C'),
-        k: has_letter(field, b'K'),
-        b: has_letter(field, b'B'),
-        t: has_letter(field, b'T'),
-        r: has_letter(field, b'R'),
-        j: has_letter(field, b'J'),
-        g: has_letter(field, b'G'),
+        o: text::is_among(b'O', letters),
+        s: text::is_among(b'S', letters),
+        l: text::is_among(b'L', letters),
+        n: text::is_among(b'N', letters),
+        m: text::is_among(b'M', letters),
+        c: text::is_among(b'C', letters),
+        k: text::is_among(b'K', letters),
+        b: text::is_among(b'B', letters),
+        t: text::is_among(b'T', letters),
+        r: text::is_among(b'R', letters),
+        j: text::is_among(b'J', letters),
+        g: text::is_among(b'G', letters),
     }
 }
 
 // No letter stands twice.
-fn is_unrepeated(field: &[u8]) -> bool
-    ensures { result ≡ unrepeated (word field.now) }
+#[tactic(auto, using(crate::proofs::Letters::unrepeated_here, crate::proofs::Letters::unrepeated_end, text::proofs::Parts::rest_is))]
+fn is_unrepeated(letters: &[u8]) -> bool
+    ensures { result ≡ unrepeated letters.now }
 {
-    let mut i = 0;
-    while i < field.len() {
-        let c = field[i];
-        if c == b' ' {
-            return true;
-        }
-        i += 1;
-        if has_letter(&field[i..], c) {
+    for i in 0..letters.len() {
+        if text::is_among(letters[i], &letters[i + 1..]) {
             return false;
         }
     }
     true
 }
 
-// None of the group's letters stands in the field.
-fn has_none_of(group: &[u8], field: &[u8]) -> bool
-    ensures { result ≡ none_of group.now (word field.now) }
+// None of the letters is one of the group's.
+fn has_none_of(group: &[u8], letters: &[u8]) -> bool
+    ensures { result ≡ none_of group.now letters.now }
 {
-    let mut i = 0;
-    while i < field.len() {
-        let c = field[i];
-        if c == b' ' {
-            return true;
-        }
-        if line_fields::is_among(c, group) {
-            return false;
-        }
-        i += 1;
-    }
-    true
+    !letters.iter().any(|&c| text::is_among(c, group))
 }
 
-// At most one letter of the group stands in the field.
-fn has_at_most_one(group: &[u8], field: &[u8]) -> bool
-    ensures { result ≡ at_most_one group.now (word field.now) }
+// At most one of the letters is one of the group's.
+fn has_at_most_one(group: &[u8], letters: &[u8]) -> bool
+    ensures { result ≡ at_most_one group.now letters.now }
 {
-    let mut i = 0;
-    while i < field.len() {
-        let c = field[i];
-        if c == b' ' {
-            return true;
-        }
-        i += 1;
-        if line_fields::is_among(c, group) {
-            return has_none_of(group, &field[i..]);
-        }
+    match letters.iter().position(|&c| text::is_among(c, group)) {
+        Some(i) => has_none_of(group, &letters[i + 1..]),
+        None => true,
     }
-    true
 }
 
 // Not repeated; at most one of O S L; one of N M C K R.
+#[tactic(auto, unfolding(rules::specs::Conditions::lawful_letters))]
 pub fn lawful_letters(field: &[u8]) -> bool
     requires { 1 < length field.now }
     ensures { result ≡ lawful_letters field.now }
 {
-    if field[0] == b' ' {
+    if field[0] == b' ' || field[1] == b' ' {
         return true;
     }
-    if field[1] == b' ' {
-        return true;
-    }
-    if !is_unrepeated(field) {
-        return false;
-    }
-    if !has_at_most_one(b"OSL", field) {
-        return false;
-    }
-    has_at_most_one(b"NMCKR", field)
+    let letters = word(field);
+    is_unrepeated(letters) && has_at_most_one(b"OSL", letters) && has_at_most_one(b"NMCKR", letters)
 }
