@@ -10,227 +10,162 @@ use rules::{Number, PLACES};
 // ---- numbers
 
 // Digits to the field's end.
+#[tactic(auto, using(crate::proofs::Numbers::digit_steps), unfolding(text::specs::Reading::is_digit))]
 fn digits(field: &[u8]) -> Number
     requires { length field.now ≤ 19 }
     ensures { result ≡ digits_from 0 field.now }
 {
-    let mut acc: u64 = 0;
-    let mut i = 0;
-    while i < field.len() {
-        let c = field[i];
-        if c < b'0' {
+    let mut acc = 0u64;
+    for &c in field {
+        if !c.is_ascii_digit() {
             return Number::Bad;
         }
-        if b'9' < c {
-            return Number::Bad;
-        }
-        acc = acc * 10 + (text::wide(c) - 48);
-        i += 1;
+        acc = acc * 10 + u64::from(c - b'0');
     }
     Number::Is(acc)
 }
 
-// How many blanks stand at the field's start.
-fn blanks(field: &[u8]) -> usize
-    ensures { (result ≤ length field.now) × (justified field.now ≡ drop result field.now) }
+// The field from its first byte that is no blank.
+fn justified(field: &[u8]) -> &[u8]
+    ensures text { result.now ≡ justified field.now }
+    ensures within { length result.now ≤ length field.now }
 {
-    let mut i = 0;
-    while i < field.len() {
-        if field[i] != b' ' {
-            return i;
-        }
-        i += 1;
-    }
-    i
+    let blanks = field.iter().position(|&c| c != b' ').unwrap_or(field.len());
+    &field[blanks..]
 }
 
 // The number in a field: right-justified, blank-padded, no leading zero except `0` alone.
+#[tactic(auto, using(crate::proofs::Numbers::fields))]
 pub fn read_number(field: &[u8]) -> Number
     requires { length field.now ≤ 19 }
     ensures { result ≡ number_in field.now }
 {
-    let at = blanks(field);
-    if field.len() <= at {
-        return Number::Blank;
+    match justified(field) {
+        [] => Number::Blank,
+        [b'0'] => Number::Is(0),
+        [b'0', ..] => Number::Bad,
+        number => digits(number),
     }
-    if field[at] == b'0' {
-        if at + 1 == field.len() {
-            return Number::Is(0);
-        }
-        return Number::Bad;
-    }
-    digits(&field[at..])
 }
 
 // A number stands there, in its form.
+#[tactic(auto, unfolding(rules::specs::Columns::is_number))]
 pub fn is_number(x: Number) -> bool
     ensures { result ≡ is_number x }
 {
-    match x {
-        Number::Blank => false,
-        Number::Bad => false,
-        Number::Is(_) => true, // in its form
-    }
+    matches!(x, Number::Is(_))
 }
 
 // A number that may be left blank is in its form.
+#[tactic(auto, unfolding(rules::specs::Columns::number_or_blank))]
 pub fn is_number_or_blank(x: Number) -> bool
     ensures { result ≡ number_or_blank x }
 {
-    match x {
-        Number::Blank => true, // left out
-        Number::Bad => false, // not in its form
-        Number::Is(_) => true,
-    }
+    matches!(x, Number::Blank | Number::Is(_))
 }
 
 // 0 where there is none.
+#[tactic(auto, unfolding(rules::specs::Columns::value_of))]
 pub fn value_of(x: Number) -> u64
     ensures { result ≡ value_of x }
 {
     match x {
-        Number::Blank => 0,
-        Number::Bad => 0,
         Number::Is(n) => n,
+        _ => 0,
     }
 }
 
 // A given number is 1 or more.
+#[tactic(auto, unfolding(rules::specs::Columns::passes))]
 pub fn is_from_one(x: Number) -> bool
     ensures { result ≡ passes (leb 1) x }
 {
     match x {
-        Number::Blank => true,
-        Number::Bad => true,
         Number::Is(n) => 1 <= n,
+        _ => true,
     }
 }
 
 // A given number is 8 or less.
+#[tactic(auto, unfolding(rules::specs::Columns::passes))]
 fn is_to_eight(x: Number) -> bool
     ensures { result ≡ passes (λ n. leb n 8) x }
 {
     match x {
-        Number::Blank => true,
-        Number::Bad => true,
         Number::Is(n) => n <= 8,
+        _ => true,
     }
 }
 
+#[tactic(auto, unfolding(rules::specs::Columns::between))]
 pub fn is_between(low: u64, high: u64, n: u64) -> bool
     ensures { result ≡ between low high n }
 {
-    if n < low {
-        return false;
-    }
-    n <= high
+    (low..=high).contains(&n)
 }
 
 // ---- prices
 
 // n from 1 to below ten to the power 6 + d, d from 0 to 8.
+#[tactic(auto, using(crate::proofs::Numbers::price_fits, crate::proofs::Numbers::million_of), unfolding(rules::specs::Line::is_price))]
 pub fn is_price(n: u64, d: u64) -> bool
     ensures { result ≡ is_price n d }
 {
-    if n < 1 {
-        return false;
-    }
-    if 8 < d {
-        return false;
-    }
-    n < 1000000 * print_price::power(d)
+    1 <= n && d <= 8 && n < 1000000 * print_price::power(d)
 }
 
 // The values of a previous last: n has no upper value while its d is blank.
+#[tactic(auto, unfolding(rules::specs::Line::previous_ranged))]
 pub fn is_previous_ranged(n: Number, d: Number) -> bool
     ensures { result ≡ previous_ranged n d }
 {
-    match n {
-        Number::Blank => is_to_eight(d),
-        Number::Bad => is_to_eight(d),
-        Number::Is(x) => match d {
-            Number::Blank => 1 <= x,
-            Number::Bad => 1 <= x,
-            Number::Is(y) => is_price(x, y),
-        },
+    match (n, d) {
+        (Number::Is(n), Number::Is(d)) => is_price(n, d),
+        (Number::Is(n), _) => 1 <= n,
+        _ => is_to_eight(d),
     }
 }
 
 // ---- securities and dates
 
+#[tactic(auto, unfolding(rules::specs::Line::is_security_number))]
 pub fn is_security_number(n: u64) -> bool
     ensures { result ≡ is_security_number n }
 {
     is_between(1, PLACES as u64, n)
 }
 
+#[tactic(auto, unfolding(rules::specs::Line::is_unit, text::specs::Pick::among))]
 pub fn is_unit(n: u64) -> bool
     ensures { result ≡ is_unit n }
 {
-    if n == 1 {
-        return true;
-    }
-    if n == 10 {
-        return true;
-    }
-    if n == 25 {
-        return true;
-    }
-    if n == 50 {
-        return true;
-    }
-    if n == 100 {
-        return true;
-    }
-    false
+    matches!(n, 1 | 10 | 25 | 50 | 100)
 }
 
+#[tactic(auto, unfolding(rules::specs::Columns::is_leap))]
 fn is_leap(y: u64) -> bool
     ensures { result ≡ is_leap y }
 {
-    if y % 4 != 0 {
-        return false;
-    }
-    if y % 100 != 0 {
-        return true;
-    }
-    y % 400 == 0
+    y % 4 == 0 && (y % 100 != 0 || y % 400 == 0)
 }
 
+#[tactic(auto, unfolding(rules::specs::Columns::days_in, text::specs::Pick::pick))]
 fn days_in(y: u64, m: u64) -> u64
     ensures { result ≡ days_in y m }
 {
-    if m == 2 {
-        if is_leap(y) {
-            return 29;
-        }
-        return 28;
+    match m {
+        2 if is_leap(y) => 29,
+        2 => 28,
+        4 | 6 | 9 | 11 => 30,
+        _ => 31,
     }
-    if m == 4 {
-        return 30;
-    }
-    if m == 6 {
-        return 30;
-    }
-    if m == 9 {
-        return 30;
-    }
-    if m == 11 {
-        return 30;
-    }
-    31
 }
 
 // yyyymmdd, Gregorian, from 10000101.
+#[tactic(auto, unfolding(rules::specs::Columns::is_date))]
 pub fn is_date(n: u64) -> bool
     ensures { result ≡ is_date n }
 {
-    if n < 10000101 {
-        return false;
-    }
     let m = n / 100 % 100;
-    if !is_between(1, 12, m) {
-        return false;
-    }
-    is_between(1, days_in(n / 10000, m), n % 100)
+    10000101 <= n && is_between(1, 12, m) && is_between(1, days_in(n / 10000, m), n % 100)
 }
