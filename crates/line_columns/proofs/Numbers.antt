@@ -189,16 +189,16 @@ all_formed fs ms s bad i x e h = sym (and_true (eqb bad 0)) ∙ (rw (drop_of_len
 
 -- ---- what columns are worth: acc is worth those before i
 
-pub worth_more : (s : List ℕ) (i acc w x : ℕ) → worth_of acc (drop i s) ≡ x → i < length s → w ≡ get_or s i 0 % 16 → worth_of (acc * 10 + w) (drop (i + 1) s) ≡ x
+pub worth_next : (s : List ℕ) (i acc : ℕ) → i < length s → worth_of acc (drop i s) ≡ worth_of (acc * 10 + get_or s i 0 % 16) (drop (i + 1) s)
 unfolding worth_of
-worth_more s i acc w x e h q = rw (← e, drop-cons s i 0 h, q, add-one)
+worth_next s i acc h = rw (drop-cons s i 0 h, add-one)
 
-pub worth_all : (s : List ℕ) (i acc x : ℕ) → worth_of acc (drop i s) ≡ x → length s ≤ i → acc ≡ x
+pub worth_end : (s : List ℕ) (i acc : ℕ) → length s ≤ i → worth_of acc (drop i s) ≡ acc
 unfolding worth_of
-worth_all s i acc x e h = rw (drop_of_length-le s h) at e
+worth_end s i acc h = rw (drop_of_length-le s h)
 
 pub worth_small : (acc i : ℕ) → acc + 2 ≤ 2 * 10 ^ i → i < 14 → acc < 2 * 10 ^ 13
 worth_small acc i h k = omega (arith, pow-le-pow_right {n = 10} (omega arith) {i = i} {j = 13} (omega arith))
 
-pub worth_grows : (acc w d i : ℕ) → acc + 2 ≤ 2 * 10 ^ i → w ≡ d % 16 → acc * 10 + w + 2 ≤ 2 * 10 ^ (i + 1)
-worth_grows acc w d i h e = rw add-one (omega (arith, pow-suc 10 i))
+pub worth_grows : (acc w i : ℕ) → acc + 2 ≤ 2 * 10 ^ i → w ≤ 15 → acc * 10 + w + 2 ≤ 2 * 10 ^ (i + 1)
+worth_grows acc w i h k = rw add-one (omega (arith, pow-suc 10 i))
