@@ -2,9 +2,8 @@
 // within its values, and the side as a value. What needs the day's state is not asked here.
 #![tactic(auto)]
 
-ghost use Rattle.std.specs.Prelude.{◌≡◌, ◌≤◌, true, ◌&&◌, length};
-ghost use Rattle.rules.specs.Columns.{columns, blank, number_in, is_number};
-ghost use Rattle.rules.specs.Line.{alike};
+ghost use Rattle.std.specs.Prelude.{◌≡◌, ◌≤◌, true, length};
+ghost use Rattle.rules.specs.Columns.{columns, blank, number_in};
 ghost use Rattle.line_columns.specs.Columns.{stands};
 ghost use Rattle.line_side.specs.Side.{amounts_stand, side_fields, letters_read, side_read};
 ghost use Rattle.rules.specs.Line.{formed_by, ranged_by, side_by, matched_by};
@@ -40,20 +39,78 @@ pub struct LettersRead {
     pub lawful: bool,
 }
 
+impl SideFields {
+    // Only letters, days and previous last may be blank.
+    #[tactic(auto, unfolding(rules::specs::Line::formed_by))]
+    fn is_formed(self, letters: bool) -> bool
+        ensures { result ≡ formed_by self.volume self.n self.d letters self.days self.m self.e }
+    {
+        line_numbers::is_number(self.volume)
+            && line_numbers::is_number(self.n)
+            && line_numbers::is_number(self.d)
+            && letters
+            && line_numbers::is_number_or_blank(self.days)
+            && line_numbers::is_number_or_blank(self.m)
+            && line_numbers::is_number_or_blank(self.e)
+    }
+
+    // Volume from 1, a price, days from 1, previous last.
+    #[tactic(auto, unfolding(rules::specs::Line::ranged_by))]
+    fn is_ranged(self) -> bool
+        ensures { result ≡ ranged_by self.volume self.n self.d self.days self.m self.e }
+    {
+        1 <= line_numbers::value_of(self.volume)
+            && line_numbers::is_price(
+                line_numbers::value_of(self.n),
+                line_numbers::value_of(self.d),
+            )
+            && line_numbers::is_from_one(self.days)
+            && line_numbers::is_previous_ranged(self.m, self.e)
+    }
+
+    // The side, 0 where a number is not given.
+    #[tactic(auto, unfolding(rules::specs::Line::side_by))]
+    fn side(self, letters: Letters) -> Side
+        ensures { result ≡ side_by self.volume self.n self.d letters self.days self.m self.e }
+    {
+        Side {
+            volume: line_numbers::value_of(self.volume),
+            price: Price {
+                n: line_numbers::value_of(self.n),
+                d: line_numbers::value_of(self.d),
+            },
+            letters,
+            days: line_numbers::value_of(self.days),
+            previous: Price {
+                n: line_numbers::value_of(self.m),
+                d: line_numbers::value_of(self.e),
+            },
+        }
+    }
+
+    // Days exactly with R; previous last exactly with G, both its fields.
+    #[tactic(auto, unfolding(rules::specs::Line::matched_by, rules::specs::Line::alike, text::specs::Pick::pick))]
+    fn is_matched(self, letters: Letters) -> bool
+        ensures { result ≡ matched_by letters self.days self.m self.e }
+    {
+        letters.r == line_numbers::is_number(self.days)
+            && letters.g == line_numbers::is_number(self.m)
+            && letters.g == line_numbers::is_number(self.e)
+    }
+}
+
 // Volume and n stand in their columns, with a blank before the volume. What is not so is read field by field.
 fn amounts_stand(part: &[u8]) -> bool
     requires { length part.now ≡ 46 }
     ensures { result ≡ true → amounts_stand part.now ≡ true }
 {
-    if part[0] != b' ' {
-        return false;
-    }
     let front = b"~~~~~~~~ ~~~~~~~~~~~~~~     ~~ ~";
     let most = b"9999999999999999999999~~~~~~~~~~";
-    line_columns::is_formed(front, most, &part[0..33])
+    part[0] == b' ' && line_columns::is_formed(front, most, &part[0..33])
 }
 
 // The number in a field. Where it is known to stand in its columns, what they are worth, unless that is 0.
+#[tactic(auto, using(crate::proofs::Amounts::amount_is))]
 fn read_amount(field: &[u8], known: bool) -> Number
     requires { (length field.now ≤ 14) × (known ≡ true → stands true field.now ≡ true) }
     ensures { result ≡ number_in field.now }
@@ -68,27 +125,28 @@ fn read_amount(field: &[u8], known: bool) -> Number
 }
 
 // The number in a field that may be known to be blank.
+#[tactic(auto, using(line_columns::proofs::Parts::blank_number))]
 fn read_given(field: &[u8], none: bool) -> Number
     requires { (length field.now ≤ 14) × (none ≡ true → blank field.now ≡ true) }
     ensures { result ≡ number_in field.now }
 {
     if none {
-        return Number::Blank;
+        Number::Blank
+    } else {
+        line_numbers::read_number(field)
     }
-    line_numbers::read_number(field)
 }
 
 // Days and previous last are blank: sixteen columns at once, and two.
+#[tactic(auto, using(crate::proofs::Amounts::end_parts))]
 fn is_blank_end(part: &[u8]) -> bool
     requires { length part.now ≡ 46 }
     ensures { result ≡ blank (columns 29 46 part.now) }
 {
-    if !line_fields::is_blank_part(&part[28..44]) {
-        return false;
-    }
-    line_fields::is_blank_part(&part[44..46])
+    line_fields::is_blank_part(&part[28..44]) && line_fields::is_blank_part(&part[44..46])
 }
 
+#[tactic(auto, using(crate::proofs::Amounts::known), unfolding(crate::specs::Side::side_fields))]
 fn read_fields(part: &[u8]) -> SideFields
     requires { length part.now ≡ 46 }
     ensures { result ≡ side_fields part.now }
@@ -105,6 +163,7 @@ fn read_fields(part: &[u8]) -> SideFields
     }
 }
 
+#[tactic(auto, unfolding(crate::specs::Side::letters_read))]
 fn read_letters(part: &[u8]) -> LettersRead
     requires { length part.now ≡ 4 }
     ensures { result ≡ letters_read part.now }
@@ -116,136 +175,19 @@ fn read_letters(part: &[u8]) -> LettersRead
     }
 }
 
-// Only letters, days and previous last may be blank.
-fn side_formed(
-    volume: Number,
-    n: Number,
-    d: Number,
-    letters: bool,
-    days: Number,
-    m: Number,
-    e: Number,
-) -> bool
-    ensures { result ≡ formed_by volume n d letters days m e }
-{
-    if !line_numbers::is_number(volume) {
-        return false;
-    }
-    if !line_numbers::is_number(n) {
-        return false;
-    }
-    if !line_numbers::is_number(d) {
-        return false;
-    }
-    if !letters {
-        return false;
-    }
-    if !line_numbers::is_number_or_blank(days) {
-        return false;
-    }
-    if !line_numbers::is_number_or_blank(m) {
-        return false;
-    }
-    line_numbers::is_number_or_blank(e)
-}
-
-// Volume from 1, a price, days from 1, previous last.
-fn side_ranged(volume: Number, n: Number, d: Number, days: Number, m: Number, e: Number) -> bool
-    ensures { result ≡ ranged_by volume n d days m e }
-{
-    if line_numbers::value_of(volume) < 1 {
-        return false;
-    }
-    if !line_numbers::is_price(line_numbers::value_of(n), line_numbers::value_of(d)) {
-        return false;
-    }
-    if !line_numbers::is_from_one(days) {
-        return false;
-    }
-    line_numbers::is_previous_ranged(m, e)
-}
-
-fn side_of(
-    volume: Number,
-    n: Number,
-    d: Number,
-    letters: Letters,
-    days: Number,
-    m: Number,
-    e: Number,
-) -> Side
-    ensures { result ≡ side_by volume n d letters days m e }
-{
-    let price = Price {
-        n: line_numbers::value_of(n),
-        d: line_numbers::value_of(d),
-    };
-    let previous = Price {
-        n: line_numbers::value_of(m),
-        d: line_numbers::value_of(e),
-    };
-    Side {
-        volume: line_numbers::value_of(volume),
-        price: price,
-        letters: letters,
-        days: line_numbers::value_of(days),
-        previous: previous,
-    }
-}
-
-// The number stands there exactly if the letter does.
-fn is_given_with(letter: bool, x: Number) -> bool
-    ensures { result ≡ alike letter (is_number x) }
-{
-    let given = line_numbers::is_number(x);
-    if letter {
-        return given;
-    }
-    !given
-}
-
-// Days exactly with R; previous last exactly with G, both its fields.
-fn side_matched(letters: Letters, days: Number, m: Number, e: Number) -> bool
-    ensures { result ≡ matched_by letters days m e }
-{
-    if !is_given_with(letters.r, days) {
-        return false;
-    }
-    if !is_given_with(letters.g, m) {
-        return false;
-    }
-    is_given_with(letters.g, e)
-}
-
 // The one reader of a side, for T, X, E and both sides of a C line.
+#[tactic(auto, using(crate::proofs::Sides::side_read_is), unfolding(crate::specs::Side::side_fields, crate::specs::Side::letters_read))]
 pub fn read_side(part: &[u8]) -> SideRead
     requires { length part.now ≡ 46 }
     ensures { result ≡ side_read part.now }
 {
-    let x = read_fields(part);
-    let volume = x.volume;
-    let n = x.n;
-    let d = x.d;
-    let days = x.days;
-    let m = x.m;
-    let e = x.e;
+    let fields = read_fields(part);
     let read = read_letters(&part[24..28]);
-    let letters = read.letters;
     SideRead {
-        formed: side_formed(volume, n, d, read.formed, days, m, e),
-        ranged: side_ranged(volume, n, d, days, m, e),
-        side: side_of(volume, n, d, letters, days, m, e),
+        formed: fields.is_formed(read.formed),
+        ranged: fields.is_ranged(),
+        side: fields.side(read.letters),
         lawful: read.lawful,
-        matched: side_matched(letters, days, m, e),
+        matched: fields.is_matched(read.letters),
     }
-}
-
-// Two answers at once.
-pub fn both(a: bool, b: bool) -> bool
-    ensures { result ≡ (a && b) }
-{
-    if a {
-        return b;
-    }
-    false
 }

@@ -1,8 +1,9 @@
-use Rattle.line_side.proofs.Amounts.{end_marked, end_told}
+use native.Mathlib.Omega.{arith}
+use Rattle.line_side.proofs.Amounts.{end_parts}
 use Rattle.line_side.proofs.is_blank_end.Goals as goal
 
-pub returns-then-not-is_blank_part : goal.returns-then-not-is_blank_part
-returns-then-not-is_blank_part c = search end_marked
+pub returns-then-is_blank_part : goal.returns-then-is_blank_part
+returns-then-is_blank_part c = rw (end_parts c.args.part.now) (grind arith)
 
-pub returns : goal.returns
-returns c = search end_told
+pub returns-else-is_blank_part : goal.returns-else-is_blank_part
+returns-else-is_blank_part c = rw (end_parts c.args.part.now) (grind arith)
