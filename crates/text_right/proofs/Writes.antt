@@ -1,27 +1,14 @@
 -- A number in its width: its writers' steps, and its length. Assumes nothing.
-use Prim.Native.Nat.{ℕ, zero, suc, ◌-◌, ◌^◌, ◌≤◌, ◌<◌}
+use Prim.Native.Nat.{ℕ, suc, ◌-◌, ◌^◌, ◌≤◌, ◌<◌}
 use native.Mathlib.Omega.{arith}
-use mathlib.Core.Path.{◌≡◌, refl, sym, ap, ◌∙◌}
-use mathlib.Core.List.{List, [], ◌∷◌, ◌++◌}
-use lib.ListN.{length, take, drop, set, replicate, length-append, length-replicate}
+use mathlib.Core.Path.{◌≡◌}
+use mathlib.Core.List.{List, ◌++◌}
+use lib.ListN.{length, take, drop, replicate, length-append, length-replicate}
 use Rattle.text.specs.Decimal.{decimal, places}
-use Rattle.text.specs.Put.{put, Written}
+use Rattle.text.specs.Put.{Written}
 use Rattle.text.proofs.Decimal.{length_decimal, decimal_places}
 use Rattle.text.proofs.Writing.{room}
 use Rattle.text_right.specs.Justified.{right}
-
--- a turn's store: one blank more
-pub blank_on : (l : List ℕ) (i : ℕ) → i < length l → set (replicate i 32 ++ drop i l) i 32 ≡ replicate (suc i) 32 ++ drop (suc i) l
-blank_on [] i h = absurd (omega arith)
-blank_on (x ∷ xs) zero h = refl
-blank_on (x ∷ xs) (suc i) h = ap (λ (l : List ℕ). 32 ∷ l) (blank_on xs i (omega arith))
-
--- all blanks are written
-pub blanks_done : (b a : List ℕ) (i k : ℕ) → i ≤ k → k ≤ i → a ≡ replicate i 32 ++ drop i b → k ≤ length b → Written (replicate k 32) b a i
-unfolding put
-blanks_done b a i k l m h w =
-    let e : i ≡ k = omega arith in
-    record { tape = h ∙ simp (e, length-replicate); count_is = e ∙ sym (length-replicate k 32); within = omega arith }
 
 -- ---- a number in its width, by the digits and blanks that were counted
 

@@ -1,17 +1,14 @@
-use native.Mathlib.Numerals.{add-one}
-use mathlib.Core.Path.{refl}
-use lib.ListN.{length-set}
-use Rattle.text_right.proofs.Writes.{blank_on, blanks_done}
-use borrow.Author.Rules.{rules}
+use Prim.Native.Nat.{ℕ}
+use mathlib.Core.Path.{◌≡◌, sym, ap, ◌∙◌}
+use lib.ListN.{replicate, length-replicate}
+use lib.Seq.{length-take-le}
+use Rattle.text.specs.Put.{put}
 use Rattle.text_right.proofs.write_blanks.Goals as goal
 
-pub loop-i-init : goal.loop-i-init
-loop-i-init c = (search rules, refl, refl)
-
-pub loop-i-preserved : goal.loop-i-preserved
-loop-i-preserved c = let l = c.loop-i in
-    let a = c.args in
-    (search rules, rw (l.invariant.1, add-one) (blank_on a.rest.now l.i (search rules)), simp length-set l.invariant.2)
-
 pub returns : goal.returns
-returns c = search blanks_done
+unfolding put
+returns c =
+    let k = c.args.k in
+    let b = c.args.rest.now in
+    let e : c.fill.new.self ≡ replicate k 32 = c.fill.ensures.after (λ y p. cc) ∙ ap (λ (n : ℕ). replicate n 32) (length-take-le k b c.requires) in
+    record { tape = rw (e, length-replicate); count_is = sym (length-replicate k 32); within = c.requires }
