@@ -12,7 +12,7 @@ use Rattle.text.specs.Pick.{pick}
 use Rattle.text.specs.Put.{Written}
 use Rattle.text.specs.Decimal.{places}
 use Rattle.text.proofs.Decimal.{length_places}
-use Rattle.text.proofs.Writing.{shorter, room_no}
+use Rattle.text.proofs.Writing.{shorter, room_no, written_nothing}
 use Rattle.facts_value.specs.Values.{trimmed, point_text}
 
 zero_cut : (k m : ℕ) → 0 < k → m % 10 ≡ 0 → trimmed (k - 1) (m / 10) ≡ trimmed k m
@@ -40,8 +40,6 @@ module _ (k m : ℕ) (t : List ℕ) (left : trimmed k m ≡ t) where
   pub trim_ended : k ≤ 0 → places 0 m ≡ t
   trim_ended h = nothing_left k m h ∙ left
 
-pub ruleset trims = (trim_again, trim_stopped, trim_ended)
-
 module _ (k n m : ℕ) (t : List ℕ) (told : places k n ≡ t) where
   pub trimmed_room : length t ≤ m → k ≤ m
   trimmed_room h = omega (arith, h, length_places k n, ap length told)
@@ -53,3 +51,7 @@ module _ (k n m : ℕ) (t : List ℕ) (told : places k n ≡ t) where
 pub point_room : (f m : ℕ) → length (point_text f) ≤ m → (f ≡ 0 → ⊥) → length (bytes ".") ≤ m
 unfolding point_text
 point_room f m h z = shorter (bytes ".") (trimmed 8 f) m (room_no (eqb f 0) [] (bytes "." ++ trimmed 8 f) m h (ne_eqb f 0 z))
+
+pub nothing_placed : (n : ℕ) (b : List ℕ) → Written (places 0 n) b b 0
+unfolding places
+nothing_placed n b = written_nothing b

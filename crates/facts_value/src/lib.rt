@@ -13,46 +13,25 @@ pub fn write_number(rest: &mut [u8], n: u64) -> usize
     ensures { Written (number_text n) rest.old rest.new result }
 {
     if n == 0 {
-        return text::write_bytes(rest, b"-");
+        text::write_bytes(rest, b"-")
+    } else {
+        text::write_decimal(rest, n)
     }
-    text::write_decimal(rest, n)
-}
-
-// Digits that are written in a number of places.
-#[derive(Clone, Copy)]
-struct Digits {
-    number: u64,
-    places: usize,
 }
 
 // A fraction of eight places without the zeros at its end.
-fn trim(f: u64) -> Digits
-    ensures { places result.places result.number ≡ trimmed 8 f }
-{
-    let mut k: usize = 8;
-    let mut m = f;
-    while 0 < k {
-        if m % 10 != 0 {
-            return Digits {
-                number: m,
-                places: k,
-            };
-        }
-        m /= 10;
-        k -= 1;
-    }
-    Digits {
-        number: m,
-        places: 0,
-    }
-}
-
 fn write_trimmed(rest: &mut [u8], f: u64) -> usize
     requires { length (trimmed 8 f) ≤ length rest.old }
     ensures { Written (trimmed 8 f) rest.old rest.new result }
 {
-    let d = trim(f);
-    text::write_places(rest, d.number, d.places)
+    let mut m = f;
+    for k in (1..=8).rev() {
+        if m % 10 != 0 {
+            return text::write_places(rest, m, k);
+        }
+        m /= 10;
+    }
+    0
 }
 
 fn write_point(rest: &mut [u8], f: u64) -> usize
@@ -79,7 +58,8 @@ pub fn write_value_or_none(rest: &mut [u8], u: u64) -> usize
     ensures { Written (value_or_none u) rest.old rest.new result }
 {
     if u == 0 {
-        return text::write_bytes(rest, b"-");
+        text::write_bytes(rest, b"-")
+    } else {
+        write_value(rest, u)
     }
-    write_value(rest, u)
 }

@@ -14,6 +14,6 @@ pub write_decimal-requires : goal.write_decimal-requires
 unfolding number_text
 write_decimal-requires c = search choices
 
-pub returns : goal.returns
+pub returns-else-n-eq0 : goal.returns-else-n-eq0
 unfolding number_text
-returns c = search choices
+returns-else-n-eq0 c = search choices

@@ -14,6 +14,6 @@ pub write_value-requires : goal.write_value-requires
 unfolding value_or_none
 write_value-requires c = search choices
 
-pub returns : goal.returns
+pub returns-else-u-eq0 : goal.returns-else-u-eq0
 unfolding value_or_none
-returns c = search choices
+returns-else-u-eq0 c = search choices
