@@ -1,17 +1,18 @@
 -- A line's end, and a line's start moved to the front: the steps of the loops. Assumes nothing.
-use Prim.Native.Nat.{ℕ, suc, ◌+◌, ◌-◌, ◌≤◌, ◌<◌}
+use Prim.Native.Nat.{ℕ, suc, ◌+◌, ◌-◌, ◌≤◌, ◌<◌, min}
+use Rattle.std.specs.List.{copy_within}
+use Rattle.std.proofs.lemmas.List.Edits.{paste_all}
 use native.Mathlib.Numerals.{add-one}
 use native.Mathlib.Omega.{arith}
 use mathlib.Core.Path.{◌≡◌, refl, sym, ap, ◌∙◌}
 use mathlib.Core.Bool.{Bool, true, false}
 use mathlib.Core.List.{List, [], ◌∷◌, ◌++◌}
-use lib.Dec.{eqb, ltb}
-use lib.ListN.{length, take, drop, get_or, set, drop_of_length-le, length-take, length-drop, take-append-drop}
-use lib.Seq.{drop-cons, drop-drop, take_all, get_or-drop, get_or-append-add}
-use borrow.Author.Tests.{eq-eqb, ne_eqb, eqb-true, ltb-true, lt-ltb, le-ltb}
+use lib.Dec.{ltb}
+use lib.ListN.{length, take, drop, get_or, drop_of_length-le, length-take, length-drop, take-append-drop}
+use lib.Seq.{drop-cons, drop-drop}
+use borrow.Author.Tests.{eq-eqb, ne_eqb, eqb-true, ltb-true, ltb-false}
 use Rattle.text.specs.Pick.{pick, all}
 use Rattle.text.specs.Put.{put, Written}
-use Rattle.text.proofs.Writing.{store}
 use Rattle.text.proofs.Texts.{and_left, and_right}
 use Rattle.rules.specs.Sizes.{width}
 use Rattle.feed_blocks.specs.Lines.{line_length, line_end, ends_at}
@@ -39,37 +40,13 @@ module _ (block : List ℕ) (i e : ℕ) where
 
 -- ---- many bytes at once: `near` is 0 as long as no line feed was seen
 
-module _ (block : List ℕ) (from near i : ℕ) (so : near ≡ 0 → line_end block (from + i) ≡ line_end block from) where
+module _ (block : List ℕ) (from near i e : ℕ) (so : near ≡ 0 → line_end block i ≡ e) where
   -- a byte that is none
-  pub near_on : (near' : ℕ) → near' ≡ near → from + width ≤ length block → i < width → (get_or block (from + i) 0 ≡ 10 → ⊥) → near' ≡ 0 → line_end block (from + (i + 1)) ≡ line_end block from
-  near_on near' e l m h z =
-      let a : from + (i + 1) ≡ from + i + 1 = omega arith in
-      rw a (end_on block (from + i) (line_end block from) (omega arith) h (so (omega arith)))
+  pub near_on : (near' : ℕ) → near' ≡ near → from + width ≤ length block → i < from + width → (get_or block i 0 ≡ 10 → ⊥) → near' ≡ 0 → line_end block (i + 1) ≡ e
+  near_on near' q l m h z = end_on block i e (omega arith) h (so (omega arith))
 
-  -- width bytes
-  pub near_all : i ≤ width → width ≤ i → near ≡ 0 → line_end block (from + width) ≡ line_end block from
-  near_all l m z = let e : i ≡ width = omega arith in rw e at (so z)
-
-pub near_start : (block : List ℕ) (from near : ℕ) → near ≡ 0 → line_end block (from + 0) ≡ line_end block from
-near_start block from near z = let e : from + 0 ≡ from = omega arith in rw e
-
-pub near_seen : (block : List ℕ) (from i near : ℕ) → near ≡ 1 → near ≡ 0 → line_end block (from + (i + 1)) ≡ line_end block from
-near_seen block from i near e z = absurd (omega arith)
-
--- a step of width bytes
-pub near_step : (block : List ℕ) (i e near : ℕ) → (near ≡ 0 → line_end block (i + width) ≡ line_end block i) → near ≡ 0 → line_end block i ≡ e → line_end block (i + width) ≡ e
-near_step block i e near so z q = so z ∙ q
-
--- ---- a line feed at a place
-
-module _ (block : List ℕ) (at : ℕ) where
-  pub ends_off : length block ≤ at → false ≡ ends_at block at
-  unfolding ends_at
-  ends_off l = rw (le-ltb at (length block) l)
-
-  pub ends_on : at < length block → eqb (get_or block at 0) 10 ≡ ends_at block at
-  unfolding ends_at
-  ends_on l = rw (lt-ltb at (length block) l)
+pub near_seen : (block : List ℕ) (i e near : ℕ) → near ≡ 1 → near ≡ 0 → line_end block (i + 1) ≡ e
+near_seen block i e near q z = absurd (omega arith)
 
 -- bytes that pass a test which a line feed fails, and a line feed behind them
 module _ (test : ℕ → Bool) (fails : test 10 ≡ false) where
@@ -91,18 +68,20 @@ module _ (test : ℕ → Bool) (fails : test 10 ≡ false) where
 
 -- ---- moving to the front
 
--- a turn: the next byte to be moved still stands where it stood
-pub move_on : (b : List ℕ) (from i : ℕ) → from + i < length b → set (take i (drop from b) ++ drop i b) i (get_or (take i (drop from b) ++ drop i b) (from + i) 0) ≡ take (suc i) (drop from b) ++ drop (suc i) b
-move_on b from i h =
-    let l : length (take i (drop from b)) ≡ i = simp (length-take, length-drop) (omega arith) in
-    let e : get_or (take i (drop from b) ++ drop i b) (from + i) 0 ≡ get_or (drop from b) i 0 =
-    ap (λ (n : ℕ). get_or (take i (drop from b) ++ drop i b) n 0) (let z : from + i ≡ length (take i (drop from b)) + from = omega arith in z)
-    ∙ (get_or-append-add (take i (drop from b)) (drop i b) from 0 ∙ (get_or-drop i b from 0 ∙ (ap (λ (n : ℕ). get_or b n 0) (let z : i + from ≡ from + i = omega arith in z) ∙ sym (get_or-drop from b i 0)))) in
-    rw e (store (drop from b) b i (omega (arith, length-drop from b)) (omega arith))
+same_rest : (b : List ℕ) (from start : ℕ) → start ≡ min from (length b) → drop start b ≡ drop from b
+same_rest b from start e = go (ltb from (length b)) refl
+  where
+    go : (t : Bool) → ltb from (length b) ≡ t → drop start b ≡ drop from b
+    go true h = let l = ltb-true from (length b) h in ap (λ (n : ℕ). drop n b) (omega arith)
+    go false h = let l = ltb-false from (length b) h in rw (drop_of_length-le b {i = start} (omega arith), drop_of_length-le b {i = from} (omega arith))
 
--- all is moved
-pub moved : (b a : List ℕ) (from i j : ℕ) → a ≡ take i (drop from b) ++ drop i b → j ≡ from + i → length a ≡ length b → length a ≤ j → i ≤ length b - from → Written (drop from b) b a i
+pub moved : (b a : List ℕ) (from start : ℕ) → start ≡ min from (length b) → a ≡ copy_within b start (length b) 0 → length a ≡ length b → Written (drop from b) b a (length a - start)
 unfolding put
-moved b a from i j h e q l m =
-    let n : i ≡ length (drop from b) = omega (arith, length-drop from b) in
-    record { tape = h ∙ rw (take_all i (drop from b) (omega arith), n); count_is = n; within = omega arith }
+moved b a from start e q l =
+    let r : drop start b ≡ drop from b = same_rest b from start e in
+    let n : length (drop from b) ≡ length b - start = rw length-drop (omega arith) in
+    record {
+      tape = q ∙ (paste_all b 0 (drop start b) (length b - start) (sym (length-drop start b)) ∙ rw (r, n) (let z : 0 + (length b - start) ≡ length b - start = omega arith in ap (λ (i : ℕ). drop from b ++ drop i b) z));
+      count_is = rw (n, l);
+      within = omega arith;
+    }

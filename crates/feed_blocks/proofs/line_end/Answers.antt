@@ -1,11 +1,11 @@
 use Rattle.feed_blocks.proofs.Scan.{end_here, end_on, end_past}
 use Rattle.feed_blocks.proofs.line_end.Goals as goal
 
-pub returns-then-block-i-eq10 : goal.returns-then-block-i-eq10
-returns-then-block-i-eq10 c = search end_here
-
 pub loop-i-preserved : goal.loop-i-preserved
 loop-i-preserved c = search end_on
 
-pub returns : goal.returns
-returns c = search end_past
+pub returns-else-block-i-ne10 : goal.returns-else-block-i-ne10
+returns-else-block-i-ne10 c = search end_here
+
+pub returns-after-loop-i : goal.returns-after-loop-i
+returns-after-loop-i c = search end_past
