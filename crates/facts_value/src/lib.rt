@@ -53,6 +53,7 @@ pub fn write_value(rest: &mut [u8], u: u64) -> usize
     at + write_point(&mut rest[at..], u % 100000000)
 }
 
+// `-` is none. Kept beside write_number: one function over what writes the rest is no plainer.
 pub fn write_value_or_none(rest: &mut [u8], u: u64) -> usize
     requires { length (value_or_none u) ≤ length rest.old }
     ensures { Written (value_or_none u) rest.old rest.new result }

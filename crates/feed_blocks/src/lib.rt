@@ -34,7 +34,7 @@ fn line_near(block: &[u8], from: usize) -> usize
     i
 }
 
-// The place of the first line feed from `from` on, or of the block's end.
+// The place of the first line feed from `from` on, or of the block's end. Kept: `from` may be past the end, where no slice begins.
 pub fn line_end(block: &[u8], from: usize) -> usize
     ensures { result ≡ line_end block.now from }
 {

@@ -74,7 +74,3 @@ word_stop s i h q = rw (drop-cons s i 0 h) (word_blank _ _ q)
 
 pub word_more : (s : List ℕ) (i : ℕ) → i < length s → (get_or s i 0 ≡ 32 → ⊥) → word (drop i s) ≡ get_or s i 0 ∷ word (drop (suc i) s)
 word_more s i h q = rw (drop-cons s i 0 h) (word_byte _ _ q)
-
-pub word_end : (s : List ℕ) (i : ℕ) → length s ≤ i → word (drop i s) ≡ []
-unfolding word span
-word_end s i h = rw (drop_of_length-le s h)

@@ -86,7 +86,7 @@ pub fn is_from_one(x: Number) -> bool
     }
 }
 
-// A given number is 8 or less.
+// A given number is 8 or less. Kept: one function over a test, for this and the one above, is no plainer.
 #[tactic(auto, unfolding(rules::specs::Columns::passes))]
 fn is_to_eight(x: Number) -> bool
     ensures { result ≡ passes (λ n. leb n 8) x }
