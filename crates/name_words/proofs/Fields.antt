@@ -1,18 +1,25 @@
 -- Laws of a field's text and of the loops that look through a text. Assumes nothing.
-use Prim.Native.Nat.{ℕ, suc, ◌+◌, ◌-◌, ◌≤◌, ◌<◌}
+use Prim.Native.Nat.{ℕ, zero, suc, ◌+◌, ◌-◌, ◌<◌}
+use native.Mathlib.Nat.{le_of_suc-le-suc, not-suc-le-zero}
 use native.Mathlib.Numerals.{add-one}
 use native.Mathlib.Omega.{arith}
-use mathlib.Core.Path.{◌≡◌, refl, sym, ◌∙◌}
+use mathlib.Core.Path.{◌≡◌, refl, sym, ap, ◌∙◌}
 use mathlib.Core.Bool.{Bool, true, false}
-use mathlib.Core.List.{List, [], ◌∷◌, ◌++◌, append-nil}
-use lib.ListN.{length, get_or, take, drop, drop_of_length-le}
-use lib.Seq.{drop-cons, take-suc, append_snoc, length-take-le}
+use mathlib.Core.List.{List, [], ◌∷◌}
+use lib.ListN.{length, get_or, take, drop}
+use lib.Seq.{length-take-le}
 use borrow.Author.Tests.{eq-eqb, ne_eqb}
-use Rattle.text.specs.Pick.{pick, all, among}
-use Rattle.text.specs.Reading.{span, starts}
+use Rattle.std.specs.Prelude.{Option}
+use Rattle.std.specs.Bool.{MatchBool}
+use Rattle.std.specs.Option.{MatchOption, unwrap_or}
+use Rattle.std.specs.List.{AllWithin, HoldsAt}
+use Rattle.std.proofs.lemmas.Iterator.{index_from_first}
+use Rattle.text.specs.Pick.{pick, all}
+use Rattle.text.specs.Reading.{span}
+use Rattle.text.proofs.Booleans.{and_false}
 use Rattle.text.proofs.Parts.{rest_is}
 use Rattle.rules.specs.Columns.{is_blank, not_blank, blank, word, filled, left_justified}
-use Rattle.rules.proofs.Fields.{word_blank, word_byte}
+use Rattle.rules.proofs.Fields.{word_blank, word_byte, word_short}
 use Rattle.name_words.specs.Word.{WordOf}
 
 -- ---- the text at a field's left
@@ -21,41 +28,47 @@ pub word_nothing : word [] ≡ []
 unfolding word span
 word_nothing = refl
 
--- i bytes of the field are passed, none of them a blank
-module _ (s : List ℕ) (i : ℕ) (e : word s ≡ take i s ++ word (drop i s)) where
-  pub passed : i < length s → (get_or s i 0 ≡ 32 → ⊥) → word s ≡ take (i + 1) s ++ word (drop (i + 1) s)
-  passed h b =
-      e ∙ rw (drop-cons s i 0 h, word_byte (get_or s i 0) (drop (suc i) s) b, add-one, take-suc s i 0 h)
-      (sym (append_snoc (take i s) (get_or s i 0) (word (drop (suc i) s))))
+-- the bytes at the front that pass are a front
+span_front : (p : ℕ → Bool) (s : List ℕ) → (span p s).got ≡ take (length (span p s).got) s
+unfolding span pick
+span_front p [] = refl
+span_front p (c ∷ s) = go (p c) refl (span_front p s)
+  where
+    go : (b : Bool) → p c ≡ b → (span p s).got ≡ take (length (span p s).got) s → (span p (c ∷ s)).got ≡ take (length (span p (c ∷ s)).got) (c ∷ s)
+    go true e ih = rw e (ap (λ (l : List ℕ). c ∷ l) ih)
+    go false e ih = rw e
 
-  stopped : i ≤ length s → word (drop i s) ≡ [] → WordOf s i
-  stopped h n =
-      let t : word s ≡ take i s = e ∙ rw (n, append-nil) in
-      record { count_is = rw (t, length-take-le i s h); within = h; text_is = t }
+word_of : (s : List ℕ) (n : ℕ) → length (word s) ≡ n → WordOf s n
+unfolding word
+word_of s n e = record { count_is = sym e; within = omega (arith, e, word_short s); text_is = rw (← e) (span_front not_blank s) }
 
-  pub at_blank : i < length s → get_or s i 0 ≡ 32 → WordOf s i
-  at_blank h b = stopped (omega arith) (rw (drop-cons s i 0 h) (word_blank (get_or s i 0) (drop (suc i) s) b))
-
-  pub at_end : length s ≤ i → i ≤ length s → WordOf s i
-  at_end h k = stopped k (rw (drop_of_length-le s h) word_nothing)
+-- the place of the first blank, the field's length where it has none
+pub first_blank : (s : List ℕ) (r : Option ℕ) (n : ℕ) → MatchOption r (AllWithin (λ c. c ≡ 32 → ⊥) s 0 (length s)) (λ i. (i < length s) × HoldsAt (λ c. c ≡ 32) s i × AllWithin (λ c. c ≡ 32 → ⊥) s 0 i) → n ≡ unwrap_or r (length s) → WordOf s n
+first_blank s r n h e =
+    let blank_here : (c : ℕ) (t : List ℕ) → c ≡ 32 → length (word (c ∷ t)) ≡ 0 = λ c t k. ap length (word_blank c t k) in
+    let other : (c : ℕ) (t : List ℕ) → (c ≡ 32 → ⊥) → length (word (c ∷ t)) ≡ length (word t) + 1 = λ c t k. ap length (word_byte c t k) ∙ sym (add-one (length (word t))) in
+    word_of s n (index_from_first (λ t. length (word t)) (λ c. c ≡ 32) (λ c. c ≡ 32 → ⊥) (ap length word_nothing) blank_here other s r h ∙ sym e)
 
 -- the text, as the code cuts it out of the field
 pub word_cut : (s : List ℕ) (n : ℕ) → WordOf s n → n ≡ length (take n s)
 word_cut s n w = sym (length-take-le n s w.within)
 
--- ---- blanks only: x is whether the rest is blank
-module _ (s : List ℕ) (i : ℕ) (x : Bool) (e : blank (drop i s) ≡ x) where
-  pub blank_more : i < length s → get_or s i 0 ≡ 32 → blank (drop (i + 1) s) ≡ x
-  unfolding blank all is_blank
-  blank_more h b = rw (← e, drop-cons s i 0 h, eq-eqb _ 32 b, add-one)
+-- ---- blanks only
 
-  pub blank_no : i < length s → (get_or s i 0 ≡ 32 → ⊥) → false ≡ x
-  unfolding blank all is_blank
-  blank_no h b = rw (← e, drop-cons s i 0 h, ne_eqb _ 32 b)
+all_blank : (s : List ℕ) → ((k : ℕ) → k < length s → get_or s k 0 ≡ 32) → true ≡ blank s
+unfolding blank all is_blank
+all_blank [] h = refl
+all_blank (c ∷ s) h = rw (eq-eqb c 32 (h 0 (omega arith))) (all_blank s (λ k j. h (suc k) (omega arith)))
 
-  pub blank_all : length s ≤ i → true ≡ x
-  unfolding blank all
-  blank_all h = rw (← e, drop_of_length-le s h)
+some_other : (s : List ℕ) (k : ℕ) → k < length s → (get_or s k 0 ≡ 32 → ⊥) → false ≡ blank s
+unfolding blank all is_blank
+some_other [] k h n = absurd (not-suc-le-zero h)
+some_other (c ∷ s) zero h n = rw (ne_eqb c 32 n)
+some_other (c ∷ s) (suc k) h n = rw (← some_other s k (le_of_suc-le-suc h) n, and_false)
+
+pub blank_told : (s : List ℕ) (r : Bool) → MatchBool r (AllWithin (λ c. c ≡ 32) s 0 (length s)) ((k : ℕ) × (k < length s) × HoldsAt (λ c. c ≡ 32 → ⊥) s k) → r ≡ blank s
+blank_told s true h = all_blank s (λ k j. h k 0 (omega arith) j)
+blank_told s false (k, h, n) = some_other s k h (n 0)
 
 -- what follows the bytes that pass
 pub span_rest : (p : ℕ → Bool) (s : List ℕ) → (span p s).rest ≡ drop (length (span p s).got) s
@@ -70,35 +83,3 @@ span_rest p (c ∷ s) = go (p c) refl (span_rest p s)
 pub justified : (s : List ℕ) (n : ℕ) (r : Bool) → WordOf s n → r ≡ blank (take (length s - n) (drop n s)) → r ≡ left_justified s
 unfolding left_justified filled word
 justified s n r w e = e ∙ rw (rest_is s n, w.count_is, span_rest not_blank s)
-
--- ---- a byte looked for: x is whether the rest has it
-module _ (c : ℕ) (s : List ℕ) (i : ℕ) (x : Bool) (e : among c (drop i s) ≡ x) where
-  pub among_yes : i < length s → c ≡ get_or s i 0 → true ≡ x
-  unfolding among
-  among_yes h b = rw (← e, drop-cons s i 0 h, eq-eqb _ _ b)
-
-  pub among_more : i < length s → (c ≡ get_or s i 0 → ⊥) → among c (drop (i + 1) s) ≡ x
-  unfolding among
-  among_more h b = rw (← e, drop-cons s i 0 h, ne_eqb _ _ b, add-one)
-
-  pub among_no : length s ≤ i → false ≡ x
-  unfolding among
-  among_no h = rw (← e, drop_of_length-le s h)
-
--- ---- a text at the front of another: x is whether the rest goes on so
-module _ (p s : List ℕ) (i : ℕ) (x : Bool) (e : starts (drop i p) (drop i s) ≡ x) where
-  pub front_short : i < length p → length s ≤ i → false ≡ x
-  unfolding starts
-  front_short h k = rw (← e, drop-cons p i 0 h, drop_of_length-le s k)
-
-  pub front_no : i < length p → i < length s → (get_or p i 0 ≡ get_or s i 0 → ⊥) → false ≡ x
-  unfolding starts
-  front_no h k b = rw (← e, drop-cons p i 0 h, drop-cons s i 0 k, ne_eqb _ _ b)
-
-  pub front_more : i < length p → i < length s → get_or p i 0 ≡ get_or s i 0 → starts (drop (i + 1) p) (drop (i + 1) s) ≡ x
-  unfolding starts
-  front_more h k b = rw (← e, drop-cons p i 0 h, drop-cons s i 0 k, eq-eqb _ _ b, add-one)
-
-  pub front_all : length p ≤ i → true ≡ x
-  unfolding starts
-  front_all h = rw (← e, drop_of_length-le p h)

@@ -1,16 +1,9 @@
+use mathlib.Core.Path.{◌≡◌}
 use borrow.Author.Rules.{rules}
-use mathlib.Core.Path.{refl}
-use Rattle.name_words.proofs.Fields.{blank_more, blank_no, blank_all}
+use borrow.Author.Tests.{tests}
+use Rattle.std.proofs.lemmas.Iterator.{cases_from_all, YieldsList-from_slice}
+use Rattle.name_words.proofs.Fields.{blank_told}
 use Rattle.name_words.proofs.is_blank.Goals as goal
 
-pub loop-i-init : goal.loop-i-init
-loop-i-init c = (search rules, refl)
-
-pub returns-then-field-i-ne32 : goal.returns-then-field-i-ne32
-returns-then-field-i-ne32 c = search blank_no
-
-pub loop-i-preserved : goal.loop-i-preserved
-loop-i-preserved c = (search rules, search blank_more)
-
 pub returns : goal.returns
-returns c = search blank_all
+returns c = blank_told c.args.field.now _ (cases_from_all _ _ _ (λ x. x ≡ 32) (λ x. x ≡ 32 → ⊥) c.all.ensures.ran (YieldsList-from_slice c.args.field.now cc) (λ x q k. search (rules, tests)) (λ x q k. search (rules, tests)))

@@ -1,16 +1,9 @@
+use mathlib.Core.Path.{◌≡◌}
 use borrow.Author.Rules.{rules}
-use mathlib.Core.Path.{refl}
-use Rattle.name_words.proofs.Fields.{passed, at_blank, at_end}
+use borrow.Author.Tests.{tests}
+use Rattle.std.proofs.lemmas.Iterator.{IsFirst-from_position, YieldsList-from_slice}
+use Rattle.name_words.proofs.Fields.{first_blank}
 use Rattle.name_words.proofs.word_length.Goals as goal
 
-pub loop-i-init : goal.loop-i-init
-loop-i-init c = (search rules, refl)
-
-pub returns-then-field-i-eq32 : goal.returns-then-field-i-eq32
-returns-then-field-i-eq32 c = search at_blank
-
-pub loop-i-preserved : goal.loop-i-preserved
-loop-i-preserved c = (search rules, search passed)
-
 pub returns : goal.returns
-returns c = search at_end
+returns c = first_blank c.args.field.now _ _ (IsFirst-from_position _ _ _ (λ x. x ≡ 32) (λ x. x ≡ 32 → ⊥) c.position.ensures.ran (YieldsList-from_slice c.args.field.now cc) (λ x q k. search (rules, tests)) (λ x q k. search (rules, tests))) c.unwrap_or.ensures
