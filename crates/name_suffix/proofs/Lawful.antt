@@ -1,78 +1,47 @@
 -- Laws of the tests that make a name lawful, in the form that the code's needs have. Assumes nothing.
-use Prim.Native.Nat.{ℕ, ◌-◌, ◌≤◌}
+use Prim.Native.Nat.{ℕ, ◌≤◌, ◌<◌}
 use native.Mathlib.Omega.{arith}
 use mathlib.Core.Path.{◌≡◌, refl, sym, ◌∙◌}
-use mathlib.Core.Bool.{Bool, true, false, ◌&&◌, ◌||◌}
-use mathlib.Core.List.{List, [], ◌∷◌}
-use lib.ListN.{length, get_or, take, drop}
+use mathlib.Core.Bool.{Bool, true, false}
+use mathlib.Core.List.{List, [], ◌∷◌, map}
+use lib.ListN.{length, get_or}
+use lib.Dec.{eqb}
+use lib.Pointwise.{pointwise}
+use denote.Ref.{Bor}
+use borrow.Author.Tests.{eq-eqb, ne_eqb}
+use Rattle.std.proofs.lemmas.Bool.{cases_eq}
+use mathlib.Core.Logic.{inl, inr}
+use Rattle.std.specs.List.{list_any}
 use Rattle.text.specs.Bytes.{bytes}
 use Rattle.text.specs.Pick.{same, among, member}
 use Rattle.text.specs.Reading.{starts}
-use Rattle.text.proofs.Tests.{tests}
-use Rattle.text.proofs.Told.{told_yes, told_no}
-use Rattle.text.proofs.Parts.{rest_is, starts_within}
-use Rattle.rules.specs.Tape.{is_letter}
+use Rattle.text.proofs.Booleans.{and_true, and_false}
+use Rattle.text.proofs.Std.{pointwise_same}
+use Rattle.text.proofs.Parts.{starts_within}
 use Rattle.rules.specs.Columns.{word, left_justified}
-use Rattle.rules.specs.Names.{texts, is_class, is_series, is_reserved, lawful_field}
+use Rattle.rules.specs.Names.{is_series, lawful_field}
 use Rattle.name_words.specs.Word.{WordOf}
 
--- ---- what a test answered
+-- a series is one byte
+pub series_one : (s : List ℕ) (r : Bool) → 1 ≤ length s → length s < 2 → r ≡ among (get_or s 0 0) (bytes "ABCDEFGHIJKMNOPQRS") → r ≡ is_series s
+unfolding is_series same
+series_one [] r h k e = absurd (omega arith)
+series_one (c ∷ []) r h k e = e ∙ sym (and_true (among c (bytes "ABCDEFGHIJKMNOPQRS")))
+series_one (c ∷ (d ∷ s)) r h k e = absurd (omega arith)
 
-pub or_last : (r t : Bool) → r ≡ t → r ≡ (t || false)
-or_last true t e = rw (← e)
-or_last false t e = rw (← e)
+pub series_other : (s : List ℕ) → (length s ≡ 1 → ⊥) → false ≡ is_series s
+unfolding is_series same
+series_other [] h = refl
+series_other (c ∷ []) h = absurd (h refl)
+series_other (c ∷ (d ∷ s)) h = sym (and_false (among c (bytes "ABCDEFGHIJKMNOPQRS")))
 
-pub ruleset answers = (told_yes, told_no, or_last, tests)
-
--- ---- a first byte, and the rest
-
-class_at : (s : List ℕ) → (length s ≡ 0 → ⊥) → is_class s ≡ (is_letter (get_or s 0 0) && member (drop 1 s) (texts ("" ∷ ".CV" ∷ ".CL" ∷ "w" ∷ [])))
-unfolding is_class
-class_at [] h = absurd (h refl)
-class_at (c ∷ s) h = refl
-
-series_at : (s : List ℕ) → (length s ≡ 0 → ⊥) → is_series s ≡ (among (get_or s 0 0) (bytes "ABCDEFGHIJKMNOPQRS") && same (drop 1 s) [])
-unfolding is_series
-series_at [] h = absurd (h refl)
-series_at (c ∷ s) h = refl
-
-pub class_none : (s : List ℕ) → length s ≡ 0 → false ≡ is_class s
-unfolding is_class
-class_none [] h = refl
-class_none (c ∷ s) h = absurd (omega arith)
-
-pub series_none : (s : List ℕ) → length s ≡ 0 → false ≡ is_series s
-unfolding is_series
-series_none [] h = refl
-series_none (c ∷ s) h = absurd (omega arith)
-
-module _ (s : List ℕ) (q : Bool) (h : length s ≡ 0 → ⊥) where
-  pub class_yes : (r : Bool) → q ≡ is_letter (get_or s 0 0) → q ≡ true → r ≡ member (take (length s - 1) (drop 1 s)) (texts ("" ∷ ".CV" ∷ ".CL" ∷ "w" ∷ [])) → r ≡ is_class s
-  class_yes r e y k = k ∙ rw (class_at s h, ← e, y, rest_is s 1)
-
-  pub class_no : q ≡ is_letter (get_or s 0 0) → q ≡ false → false ≡ is_class s
-  class_no e y = rw (class_at s h, ← e, y)
-
-  pub series_yes : (r : Bool) → q ≡ among (get_or s 0 0) (bytes "ABCDEFGHIJKMNOPQRS") → q ≡ true → r ≡ same (take (length s - 1) (drop 1 s)) [] → r ≡ is_series s
-  series_yes r e y k = k ∙ rw (series_at s h, ← e, y, rest_is s 1)
-
-  pub series_no : q ≡ among (get_or s 0 0) (bytes "ABCDEFGHIJKMNOPQRS") → q ≡ false → false ≡ is_series s
-  series_no e y = rw (series_at s h, ← e, y)
-
--- ---- a front, and what is tested of the rest
-
+-- a text is as long as its front
 pub front_room : (p s : List ℕ) (q : Bool) → q ≡ starts p s → q ≡ true → length p ≤ length s
 front_room p s q e y = starts_within p s (sym e ∙ y)
 
-pub front_and : (t : List ℕ → Bool) (s : List ℕ) (n : ℕ) (q r a : Bool) → q ≡ a → q ≡ true → r ≡ t (take (length s - n) (drop n s)) → r ≡ (a && t (drop n s))
-front_and t s n q r a e y k = k ∙ rw (← e, y, rest_is s n)
-
 -- ---- fields
 
-pub reserved_word : (s : List ℕ) (n : ℕ) (r : Bool) → WordOf s n → r ≡ is_reserved (take n s) → r ≡ is_reserved (word s)
-reserved_word s n r w e = rw w.text_is e
-
-pub unlike_nothing : (t : List ℕ) → (length t ≡ 0 → ⊥) → same t [] ≡ false
+unlike_nothing : (t : List ℕ) → (length t ≡ 0 → ⊥) → same t [] ≡ false
 unfolding same
 unlike_nothing [] h = absurd (h refl)
 unlike_nothing (c ∷ t) h = refl
@@ -83,11 +52,28 @@ module _ (listed : List ℕ → Bool) (s : List ℕ) (q : Bool) (e : q ≡ left_
   unfolding lawful_field
   unjustified y = rw (← e, y)
 
-  pub left_blank : (n : ℕ) → q ≡ true → WordOf s n → n ≡ 0 → true ≡ lawful_field listed s
+  pub left_blank : (n : ℕ) → q ≡ true → WordOf s n → n ≡ 0 → eqb n 0 ≡ lawful_field listed s
   unfolding lawful_field same
-  left_blank n y w z = rw (← e, y, w.text_is, z)
+  left_blank n y w z = rw (eq-eqb n 0 z, ← e, y, w.text_is, z)
 
-  pub listed_text : (n : ℕ) (r : Bool) → q ≡ true → WordOf s n → (n ≡ 0 → ⊥) → r ≡ listed (take n s) → r ≡ lawful_field listed s
+  pub listed_text : (n : ℕ) (r : Bool) → q ≡ true → WordOf s n → (n ≡ 0 → ⊥) → r ≡ listed (word s) → r ≡ lawful_field listed s
   unfolding lawful_field
-  listed_text n r y w z k =
-      rw (← e, y, unlike_nothing (word s) (λ h. z (w.count_is ∙ h)), w.text_is) k
+  listed_text n r y w z k = rw (← e, y, unlike_nothing (word s) (λ h. z (w.count_is ∙ h))) k
+
+-- ---- listed texts
+
+eqb_turned : (a b : ℕ) → eqb a b ≡ eqb b a
+eqb_turned a b = elim (cases_eq a b) [ inl e ↦ rw e | inr n ↦ rw (ne_eqb a b n, ne_eqb b a (λ e. n (sym e))) ]
+
+same_turned : (s t : List ℕ) → same s t ≡ same t s
+unfolding same
+same_turned [] [] = refl
+same_turned [] (b ∷ t) = refl
+same_turned (a ∷ s) [] = refl
+same_turned (a ∷ s) (b ∷ t) = rw (eqb_turned a b, same_turned s t)
+
+-- `listed.contains(&text)`
+pub any_member : (t : List ℕ) (l : List (Bor (List ℕ))) → list_any (λ known. pointwise eqb known.now t) l ≡ member t (map (λ known. known.now) l)
+unfolding member
+any_member t [] = refl
+any_member t (s ∷ l) = rw (pointwise_same s.now t, same_turned s.now t, any_member t l)

@@ -2,173 +2,93 @@
 // appendages. A name is the nineteen columns 6 to 24 of an S line: root 6, suffix 7, temporary suffix 4, appendage 2.
 #![tactic(auto)]
 
-ghost use Rattle.std.specs.Prelude.{◌≡◌, ◌&&◌, [], ◌∷◌, eqb, length, drop};
-ghost use Rattle.text.specs.Bytes.{bytes};
-ghost use Rattle.text.specs.Pick.{same, member};
-ghost use Rattle.text.specs.Reading.{starts};
+ghost use Rattle.std.specs.Prelude.{◌≡◌, ℕ, Bool, List, length, map};
+ghost use Rattle.std.specs.Fn.{FnReturnsAt};
+ghost use Rattle.text.specs.Pick.{member};
 ghost use Rattle.rules.specs.Columns.{word};
-ghost use Rattle.rules.specs.Names.{texts, listed_suffixes, is_class, is_series, is_preferred, is_suffix, is_temporary, is_appendage, is_reserved, lawful_field, lawful_name};
+ghost use Rattle.rules.specs.Names.{is_class, is_series, is_preferred, is_suffix, is_temporary, is_appendage, is_reserved, lawful_field, lawful_name};
 ghost use Rattle.rules.specs.Sizes.{name_width};
 
-// The suffixes that are listed one by one, the shortest first, six bytes each, and their lengths.
-const SUFFIX_BYTES: [u8; 252] =
-    *b"A     B     U     r     w     p     Aw    Bw    CL    CT    CV    EC    PP    SC    SP    SD    TT    VR    WD    WS    XW    rw    pw    A.N   B.N   CVR   F.N   WSw   pCL   pCV   pWD   A.CL  A.CV  B.CL  B.CV  W.WS  WS.A  WS.B  WS.N  CV.CL PT.CL pCV.CL";
-
-const SUFFIX_LENGTHS: [usize; 42] = [
-    1, 1, 1, 1, 1, 1, 2, 2, 2, 2, 2, 2, 2, 2, 2, 2, 2, 2, 2, 2, 2, 2, 2, 3, 3, 3, 3, 3, 3, 3, 3, 4,
-    4, 4, 4, 4, 4, 4, 4, 5, 5, 6,
+// The suffixes that are listed one by one.
+const SUFFIXES: [&[u8]; 42] = [
+    b"A", b"A.CL", b"A.CV", b"Aw", b"A.N", b"B", b"B.CL", b"B.CV", b"Bw", b"B.N", b"CL", b"CT",
+    b"CV", b"CVR", b"CV.CL", b"EC", b"F.N", b"PP", b"PT.CL", b"SC", b"SP", b"SD", b"TT", b"U",
+    b"VR", b"WD", b"WS", b"W.WS", b"WS.A", b"WS.B", b"WS.N", b"WSw", b"XW", b"r", b"rw", b"w",
+    b"p", b"pw", b"pCL", b"pCV", b"pCV.CL", b"pWD",
 ];
 
-fn is_listed(text: &[u8]) -> bool
-    ensures { result ≡ member text.now listed_suffixes }
-{
-    let bytes = SUFFIX_BYTES;
-    let lengths = SUFFIX_LENGTHS;
-    let mut k = 0;
-    while k < 42 {
-        let n = lengths[k];
-        if text.len() < n {
-            return false; // those behind are no shorter
-        }
-        let from = k * 6;
-        let to = from + n;
-        if text::same_text(text, &bytes[from..to]) {
-            return true;
-        }
-        k += 1;
-    }
-    false
-}
+// What may follow the letter of a class.
+const CLASS_ENDS: [&[u8]; 4] = [b"", b".CV", b".CL", b"w"];
 
-// What may follow the letter of a class: nothing, .CV, .CL or w.
-fn is_class_end(text: &[u8]) -> bool
-    ensures { result ≡ member text.now (texts ("" ∷ ".CV" ∷ ".CL" ∷ "w" ∷ [])) }
+const TEMPORARY: [&[u8]; 5] = [b"XD", b"XDIS", b"Xr", b"N", b"XI"];
+
+const RESERVED: [&[u8]; 3] = [b"SHRS", b"RULE", b"SELLER"];
+
+// The text is one of those listed.
+fn is_listed(text: &[u8], listed: &[&[u8]]) -> bool
+    ensures { result ≡ member text.now (map (λ known. known.now) listed.now) }
 {
-    if text::same_text(text, b"") {
-        return true;
-    }
-    if text::same_text(text, b".CV") {
-        return true;
-    }
-    if text::same_text(text, b".CL") {
-        return true;
-    }
-    text::same_text(text, b"w")
+    listed.contains(&text)
 }
 
 // A letter A-Z, alone or with .CV, .CL or w.
+#[tactic(auto, unfolding(rules::specs::Names::is_class))]
 fn is_class(text: &[u8]) -> bool
     ensures { result ≡ is_class text.now }
 {
-    if text.len() == 0 {
-        return false;
+    match text {
+        [letter, end @ ..] => name_words::is_letter(*letter) && is_listed(end, &CLASS_ENDS),
+        [] => false,
     }
-    if name_words::is_letter(text[0]) {
-        return is_class_end(&text[1..]);
-    }
-    false
 }
 
 // A letter A-K or M-S, alone.
+#[tactic(auto, using(crate::proofs::Lawful::series_other))]
 fn is_series(text: &[u8]) -> bool
     ensures { result ≡ is_series text.now }
 {
-    if text.len() == 0 {
-        return false;
+    match text {
+        [letter] => text::is_among(*letter, b"ABCDEFGHIJKMNOPQRS"),
+        _ => false,
     }
-    if name_words::is_among(text[0], b"ABCDEFGHIJKMNOPQRS") {
-        return text::same_text(&text[1..], b"");
-    }
-    false
 }
 
-// p and a class.
-fn is_preferred_class(text: &[u8]) -> bool
-    ensures { result ≡ starts (bytes "p") text.now && is_class (drop 1 text.now) }
-{
-    if name_words::begins(b"p", text) {
-        return is_class(&text[1..]);
-    }
-    false
-}
-
-// pC and a series.
-fn is_preferred_series(text: &[u8]) -> bool
-    ensures { result ≡ starts (bytes "pC") text.now && is_series (drop 2 text.now) }
-{
-    if name_words::begins(b"pC", text) {
-        return is_series(&text[2..]);
-    }
-    false
-}
-
+// The preferred families: p and a class; pC and a series.
+#[tactic(auto, using(crate::proofs::Lawful::front_room), unfolding(rules::specs::Names::is_preferred))]
 fn is_preferred(text: &[u8]) -> bool
     ensures { result ≡ is_preferred text.now }
 {
-    if is_preferred_class(text) {
-        return true;
-    }
-    is_preferred_series(text)
+    text::begins(b"p", text) && is_class(&text[1..])
+        || text::begins(b"pC", text) && is_series(&text[2..])
 }
 
-// The families are asked first: the list is long.
+#[tactic(auto, unfolding(rules::specs::Names::is_suffix, rules::specs::Names::listed_suffixes))]
 pub fn is_suffix(text: &[u8]) -> bool
     ensures { result ≡ is_suffix text.now }
 {
-    if is_preferred(text) {
-        return true;
-    }
-    is_listed(text)
+    is_listed(text, &SUFFIXES) || is_preferred(text)
 }
 
+#[tactic(auto, unfolding(rules::specs::Names::is_temporary))]
 fn is_temporary(text: &[u8]) -> bool
     ensures { result ≡ is_temporary text.now }
 {
-    if text::same_text(text, b"XD") {
-        return true;
-    }
-    if text::same_text(text, b"XDIS") {
-        return true;
-    }
-    if text::same_text(text, b"Xr") {
-        return true;
-    }
-    if text::same_text(text, b"N") {
-        return true;
-    }
-    text::same_text(text, b"XI")
-}
-
-// The appendage of one network, on that network.
-fn is_appendage_of(network: u64, own: u64, text: &[u8], listed: &[u8]) -> bool
-    ensures { result ≡ same text.now listed.now && eqb network own }
-{
-    if text::same_text(text, listed) {
-        return network == own;
-    }
-    false
+    is_listed(text, &TEMPORARY)
 }
 
 // BC on network A, DL on B.
+#[tactic(auto, unfolding(rules::specs::Names::is_appendage))]
 fn is_appendage(network: u64, text: &[u8]) -> bool
     ensures { result ≡ is_appendage network text.now }
 {
-    if is_appendage_of(network, 65, text, b"BC") {
-        return true;
-    }
-    is_appendage_of(network, 66, text, b"DL")
+    text::same_text(text, b"BC") && network == 65 || text::same_text(text, b"DL") && network == 66
 }
 
+#[tactic(auto, unfolding(rules::specs::Names::is_reserved))]
 pub fn is_reserved(root: &[u8]) -> bool
     ensures { result ≡ is_reserved root.now }
 {
-    if text::same_text(root, b"SHRS") {
-        return true;
-    }
-    if text::same_text(root, b"RULE") {
-        return true;
-    }
-    text::same_text(root, b"SELLER")
+    is_listed(root, &RESERVED)
 }
 
 // ---- refusal 8
@@ -176,62 +96,29 @@ pub fn is_reserved(root: &[u8]) -> bool
 fn has_reserved_root(field: &[u8]) -> bool
     ensures { result ≡ is_reserved (word field.now) }
 {
+    is_reserved(&field[..name_words::word_length(field)])
+}
+
+// A field that may be blank holds, from its left, a text that passes the test.
+fn is_lawful_field<F: Fn(&[u8]) -> bool>(field: &[u8], is_listed: F) -> bool
+    requires { F.IsAlwaysCallable is_listed }
+    ensures { (listed : List ℕ → Bool) → ((r : Bool) → FnReturnsAt F.Fn is_listed (word field.now) r → r ≡ listed (word field.now)) → result ≡ lawful_field listed field.now }
+{
+    if !name_words::is_left_justified(field) {
+        return false;
+    }
     let n = name_words::word_length(field);
-    is_reserved(&field[..n])
-}
-
-fn has_lawful_suffix(field: &[u8]) -> bool
-    ensures { result ≡ lawful_field is_suffix field.now }
-{
-    if name_words::is_left_justified(field) {
-        let n = name_words::word_length(field);
-        if n == 0 {
-            return true;
-        }
-        return is_suffix(&field[..n]);
-    }
-    false
-}
-
-fn has_lawful_temporary(field: &[u8]) -> bool
-    ensures { result ≡ lawful_field is_temporary field.now }
-{
-    if name_words::is_left_justified(field) {
-        let n = name_words::word_length(field);
-        if n == 0 {
-            return true;
-        }
-        return is_temporary(&field[..n]);
-    }
-    false
-}
-
-fn has_lawful_appendage(network: u64, field: &[u8]) -> bool
-    ensures { result ≡ lawful_field (is_appendage network) field.now }
-{
-    if name_words::is_left_justified(field) {
-        let n = name_words::word_length(field);
-        if n == 0 {
-            return true;
-        }
-        return is_appendage(network, &field[..n]);
-    }
-    false
+    n == 0 || is_listed(&field[..n])
 }
 
 // No reserved root, and each part after the root blank or a listed text from its left.
+#[tactic(auto, unfolding(rules::specs::Names::lawful_name))]
 pub fn lawful_name(network: u64, name: &[u8]) -> bool
     requires { length name.now ≡ name_width }
     ensures { result ≡ lawful_name network name.now }
 {
-    if has_reserved_root(&name[..6]) {
-        return false;
-    }
-    if has_lawful_suffix(&name[6..13]) {
-        if has_lawful_temporary(&name[13..17]) {
-            return has_lawful_appendage(network, &name[17..19]);
-        }
-        return false;
-    }
-    false
+    !has_reserved_root(&name[..6])
+        && is_lawful_field(&name[6..13], is_suffix)
+        && is_lawful_field(&name[13..17], is_temporary)
+        && is_lawful_field(&name[17..19], |text: &[u8]| is_appendage(network, text))
 }
