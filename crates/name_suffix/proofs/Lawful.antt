@@ -41,7 +41,7 @@ front_room p s q e y = starts_within p s (sym e ∙ y)
 
 -- ---- fields
 
-unlike_nothing : (t : List ℕ) → (length t ≡ 0 → ⊥) → same t [] ≡ false
+pub unlike_nothing : (t : List ℕ) → (length t ≡ 0 → ⊥) → same t [] ≡ false
 unfolding same
 unlike_nothing [] h = absurd (h refl)
 unlike_nothing (c ∷ t) h = refl

@@ -76,13 +76,12 @@ room_word s n m w h = rw w.text_is at h
 
 -- ---- the temporary suffix
 
-pub temporary_no : (s : List ℕ) (n : ℕ) → WordOf (temporary_field s) n → n ≡ 0 → false ≡ has_temporary s
+pub temporary_told : (s : List ℕ) (n : ℕ) → WordOf (temporary_field s) n → not (eqb n 0) ≡ has_temporary s
 unfolding has_temporary same
-temporary_no s n w z = rw (w.text_is, z)
-
-pub temporary_yes : (s : List ℕ) (n : ℕ) → WordOf (temporary_field s) n → (n ≡ 0 → ⊥) → true ≡ has_temporary s
-unfolding has_temporary
-temporary_yes s n w z = rw (unlike_nothing (word (temporary_field s)) (λ h. z (w.count_is ∙ h)))
+temporary_told s zero w = rw (w.text_is)
+temporary_told s (suc n) w =
+    let some : ◌≡◌ {A = ℕ} (suc n) 0 → ⊥ = λ h. cc in
+    rw (unlike_nothing (word (temporary_field s)) (λ h. some (w.count_is ∙ h)), ne_eqb (suc n) 0 some)
 
 -- ---- the whole name
 

@@ -2,7 +2,7 @@
 // nineteen columns 6 to 24 of an S line: root 6, suffix 7, temporary suffix 4, appendage 2.
 #![tactic(auto)]
 
-ghost use Rattle.std.specs.Prelude.{◌≡◌, true, false, ◌+◌, ◌≤◌, eqb, length, take};
+ghost use Rattle.std.specs.Prelude.{◌≡◌, true, false, ◌+◌, ◌≤◌, eqb, length, take, drop};
 ghost use Rattle.text.specs.Pick.{pick, opt, same};
 ghost use Rattle.text.specs.Put.{Written};
 ghost use Rattle.rules.specs.Tape.{is_raised};
@@ -14,21 +14,19 @@ ghost use Rattle.name_text.specs.Laid.{Laid, dot_text};
 
 // ---- a name's text
 
+#[tactic(auto, using(crate::proofs::Text::temporary_told))]
 pub fn has_temporary(name: &[u8]) -> bool
     requires { length name.now ≡ name_width }
     ensures { result ≡ has_temporary name.now }
 {
-    let n = name_words::word_length(&name[13..17]);
-    if n == 0 {
-        return false; // blank
-    }
-    true
+    name_words::word_length(&name[13..17]) != 0
 }
 
+#[tactic(auto, unfolding(rules::specs::Tape::is_raised, text::specs::Pick::among))]
 fn is_raised(b: u8) -> bool
     ensures { result ≡ is_raised b }
 {
-    name_words::is_among(b, b"prw")
+    matches!(b, b'p' | b'r' | b'w')
 }
 
 // A part after the root: with a letter dot before it, unless it begins with a raised letter.
@@ -37,21 +35,19 @@ fn part_length(field: &[u8]) -> usize
 {
     let n = name_words::word_length(field);
     if n == 0 {
-        return 0;
+        0
+    } else if is_raised(field[0]) {
+        n
+    } else {
+        n + 1
     }
-    if is_raised(field[0]) {
-        return n;
-    }
-    n + 1
 }
 
+#[tactic(auto, unfolding(text::specs::Pick::opt))]
 fn shown_length(field: &[u8], shown: bool) -> usize
     ensures { (result ≡ length (opt shown (part_text (word field.now)))) × (result ≤ length field.now + 1) }
 {
-    if shown {
-        return part_length(field);
-    }
-    0
+    if shown { part_length(field) } else { 0 }
 }
 
 // The length of a name, its temporary suffix shown or not.
@@ -73,10 +69,8 @@ fn word_size(field: &[u8]) -> usize
     ensures { WordOf field.now result }
 {
     let mut n = field.len();
-    let mut i = field.len();
-    while 0 < i {
-        i -= 1;
-        if field[i] == 32 {
+    for i in (0..field.len()).rev() {
+        if field[i] == b' ' {
             n = i;
         }
     }
@@ -84,20 +78,18 @@ fn word_size(field: &[u8]) -> usize
 }
 
 // 0 where two bytes are the same, 1 otherwise.
+#[tactic(auto, unfolding(text::specs::Pick::pick))]
 fn unlike(a: u8, b: u8) -> usize
     ensures { (result ≡ pick (eqb a b) 0 1) × (result ≤ 1) }
 {
-    if a == b {
-        return 0;
-    }
-    1
+    if a == b { 0 } else { 1 }
 }
 
 // 1 where a part that begins with this byte has a letter dot before it: not a blank, not a raised letter.
 fn dot_size(b: u8) -> usize
     ensures { (result ≡ length (dot_text b)) × (result ≤ 1) }
 {
-    unlike(b, 32) * unlike(b, b'p') * unlike(b, b'r') * unlike(b, b'w')
+    unlike(b, b' ') * unlike(b, b'p') * unlike(b, b'r') * unlike(b, b'w')
 }
 
 // Every column is laid; the text is their front. All are read before the first is written.
@@ -126,13 +118,11 @@ fn lay_shown(rest: &mut [u8], field: &[u8], shown: bool) -> usize
     requires { (1 ≤ length field.now) × (length field.now ≤ 7) × (length field.now + 1 ≤ length rest.old) }
     ensures { Laid (opt shown (part_text (word field.now))) rest.old rest.new result × (result ≤ length field.now + 1) }
 {
-    if !shown {
-        return 0;
+    if !shown || field[0] == b' ' {
+        0
+    } else {
+        lay_part(rest, field)
     }
-    if field[0] == 32 {
-        return 0;
-    }
-    lay_part(rest, field)
 }
 
 // Root, suffix, temporary suffix where it is shown, appendage.
@@ -146,17 +136,24 @@ fn lay_name(rest: &mut [u8], name: &[u8], temporary: bool) -> usize
     c + lay_shown(&mut rest[c..], &name[17..19], true)
 }
 
+// N bytes, read by the move.
+fn taken<const N: usize>(s: &[u8], from: usize) -> [u8; N]
+    requires { from + N ≤ length s.now }
+    ensures { result ≡ take N (drop from s.now) }
+{
+    let mut bytes = [0u8; N];
+    bytes.copy_from_slice(&s[from..from + N]);
+    bytes
+}
+
 // The first n of sixteen bytes and more, where the tape has 32. A fixed number of bytes is written, then those that stood
 // behind the text are put back; all are read before the first is written.
 fn write_sixteen(rest: &mut [u8], laid: &[u8], n: usize) -> usize
     requires { (n ≤ 16) × (16 ≤ length laid.now) × (32 ≤ length rest.old) }
     ensures { Written (take n laid.now) rest.old rest.new result }
 {
-    let up = n + 16;
-    let mut kept = [0u8; 16];
-    text::write_bytes(&mut kept, &rest[n..up]);
-    let mut new = [0u8; 16];
-    text::write_bytes(&mut new, &laid[..16]);
+    let kept: [u8; 16] = taken(rest, n);
+    let new: [u8; 16] = taken(laid, 0);
     text::write_bytes(rest, &new);
     text::write_bytes(&mut rest[n..], &kept);
     n
@@ -170,13 +167,11 @@ pub fn write_name(rest: &mut [u8], name: &[u8], temporary: bool) -> usize
 {
     let mut buffer = [0u8; 22];
     let n = lay_name(&mut buffer, name, temporary);
-    if 16 < n {
-        return text::write_bytes(rest, &buffer[..n]);
+    if n <= 16 && 32 <= rest.len() {
+        write_sixteen(rest, &buffer, n)
+    } else {
+        text::write_bytes(rest, &buffer[..n])
     }
-    if rest.len() < 32 {
-        return text::write_bytes(rest, &buffer[..n]);
-    }
-    write_sixteen(rest, &buffer, n)
 }
 
 // ---- which are the same
@@ -194,44 +189,23 @@ fn same_shown(a: &[u8], shown: bool, b: &[u8], other: bool) -> bool
 }
 
 // The names differ in their first or second byte, neither a blank, so that no text of the one is a text of the other.
+#[tactic(auto, using(crate::proofs::Text::apart, crate::proofs::Text::apart_second))]
 fn begins_apart(a: &[u8], b: &[u8]) -> bool
     requires { (length a.now ≡ name_width) × (length b.now ≡ name_width) }
     ensures { result ≡ true → same_name a.now b.now ≡ false }
 {
-    if a[0] == 32 {
-        return false;
-    }
-    if b[0] == 32 {
-        return false;
-    }
-    if a[0] != b[0] {
-        return true;
-    }
-    if a[1] == 32 {
-        return false;
-    }
-    if b[1] == 32 {
-        return false;
-    }
-    a[1] != b[1]
+    a[0] != b' ' && b[0] != b' ' && (a[0] != b[0] || a[1] != b' ' && b[1] != b' ' && a[1] != b[1])
 }
 
 // A name, with or without temporary suffix, equals the other's (refusal 9). Most differ in their first two bytes.
+#[tactic(auto, using(crate::proofs::Text::told_apart), unfolding(rules::specs::Names::same_name))]
 pub fn same_name(a: &[u8], b: &[u8]) -> bool
     requires { (length a.now ≡ name_width) × (length b.now ≡ name_width) }
     ensures { result ≡ same_name a.now b.now }
 {
-    if begins_apart(a, b) {
-        return false;
-    }
-    if same_shown(a, true, b, true) {
-        return true;
-    }
-    if same_shown(a, true, b, false) {
-        return true;
-    }
-    if same_shown(a, false, b, true) {
-        return true;
-    }
-    same_shown(a, false, b, false)
+    !begins_apart(a, b)
+        && (same_shown(a, true, b, true)
+            || same_shown(a, true, b, false)
+            || same_shown(a, false, b, true)
+            || same_shown(a, false, b, false))
 }

@@ -8,5 +8,5 @@ returns-then-n-eq0 c = (search length_none, search rules)
 pub returns-then-is_raised : goal.returns-then-is_raised
 returns-then-is_raised c = (search length_raised, search rules)
 
-pub returns : goal.returns
-returns c = (search length_dotted, search rules)
+pub returns-else-is_raised : goal.returns-else-is_raised
+returns-else-is_raised c = (search length_dotted, search rules)

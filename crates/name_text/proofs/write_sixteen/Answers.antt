@@ -1,11 +1,6 @@
-use Rattle.name_text.proofs.Layers.{take_length, take_most, put_again}
+use native.Mathlib.Omega.{arith}
+use Rattle.name_text.proofs.Layers.{put_back}
 use Rattle.name_text.proofs.write_sixteen.Goals as goal
 
-pub slice_bounds-write_bytes-end-4 : goal.slice_bounds-write_bytes-end-4
-slice_bounds-write_bytes-end-4 c = search take_length
-
-pub write_bytes-requires-2 : goal.write_bytes-requires-2
-write_bytes-requires-2 c = search take_most
-
 pub returns : goal.returns
-returns c = search put_again
+returns c = put_back 16 c.args.n c.args.laid.now c.args.rest.now c.taken-new.result c.taken-kept.result _ _ _ _ c.taken-new.ensures c.taken-kept.ensures c.write_bytes.ensures c.write_bytes-2.ensures (omega arith) (omega arith) (omega arith)
