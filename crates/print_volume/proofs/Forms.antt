@@ -59,19 +59,6 @@ module _ (network unit v : ℕ) (b : Bool) (e : b ≡ (not (is_round unit v) || 
       unfolding form_of volume_text in_tens marked_text pick
       formed_full_tens u = record { form_is = rw (sym e ∙ h, ne_eqb unit 100 u, le-ltb v 10000 l); text_is = rw (sym e ∙ h, ne_eqb unit 100 u, le-ltb v 10000 l, whole); cut_most = λ o. o; cut_few = omega arith; mark_most = omega arith; size_most = omega arith }
 
--- ---- without the last digits
-
-pub cut_none : (v cut : ℕ) → cut ≡ 0 → v ≡ v / 10 ^ cut
-cut_none v cut e = rw e (omega arith)
-
-pub cut_one : (v cut : ℕ) → cut ≡ 1 → v / 10 ≡ v / 10 ^ cut
-cut_one v cut e = rw e
-
-pub cut_two : (v cut : ℕ) → cut ≤ 2 → (cut ≡ 0 → ⊥) → (cut ≡ 1 → ⊥) → v / 100 ≡ v / 10 ^ cut
-cut_two v cut l p q =
-    let e : cut ≡ 2 = omega arith in
-    rw e
-
 -- ---- nothing, or figures and a mark
 
 module _ (network unit v : ℕ) (f : Form) (b : Bool) (g : Formed network unit v f) (e : b ≡ (eqb f.mark 0 && eqb v 100)) where

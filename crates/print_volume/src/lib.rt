@@ -21,12 +21,12 @@ pub fn full_volume_length(n: u64) -> usize
     ensures { (result ≡ length (full_volume n)) × (result ≤ 28) }
 {
     if n < 10000 {
-        return text::decimal_length(n);
+        text::decimal_length(n)
+    } else if n < 1000000 {
+        text::decimal_length(n / 1000) + 4
+    } else {
+        text::decimal_length(n / 1000000) + 8
     }
-    if n < 1000000 {
-        return text::decimal_length(n / 1000) + 4;
-    }
-    text::decimal_length(n / 1000000) + 8
 }
 
 // From 10,000 up.
@@ -48,17 +48,18 @@ fn write_millions(rest: &mut [u8], n: u64) -> usize
     at2 + write_group(&mut rest[at2..], n)
 }
 
+#[tactic(auto, unfolding(rules::specs::Volume::full_volume, text::specs::Pick::pick))]
 pub fn write_full_volume(rest: &mut [u8], n: u64) -> usize
     requires { length (full_volume n) ≤ length rest.old }
     ensures { Written (full_volume n) rest.old rest.new result }
 {
     if n < 10000 {
-        return text::write_decimal(rest, n);
+        text::write_decimal(rest, n)
+    } else if n < 1000000 {
+        write_thousands(rest, n)
+    } else {
+        write_millions(rest, n)
     }
-    if n < 1000000 {
-        return write_thousands(rest, n);
-    }
-    write_millions(rest, n)
 }
 
 // ---- how a volume is shown (document 01, "Volume")
@@ -93,30 +94,17 @@ const TENS: Form = Form {
     size: 1,
 };
 
-const FULL_HUNDREDS: Form = Form {
-    cut: 0,
-    mark: 0,
-    size: 1,
-};
+const FULL_HUNDREDS: Form = Form { cut: 0, ..HUNDREDS };
 
-const FULL_TENS: Form = Form {
-    cut: 0,
-    mark: 4,
-    size: 1,
-};
+const FULL_TENS: Form = Form { cut: 0, ..TENS };
 
 // Not round, or network B with unit below 100.
+#[tactic(auto, unfolding(rules::specs::Volume::is_round))]
 fn is_in_shares(network: u64, unit: u64, v: u64) -> bool
     requires { 1 ≤ unit }
     ensures { result ≡ (not (is_round unit v) || (eqb network 66 && ltb unit 100)) }
 {
-    if v % unit != 0 {
-        return true;
-    }
-    if network != 66 {
-        return false;
-    }
-    unit < 100
+    v % unit != 0 || network == 66 && unit < 100
 }
 
 // The form of every volume is decided here.
@@ -124,33 +112,28 @@ pub fn form_of(network: u64, unit: u64, v: u64) -> Form
     requires { 1 ≤ unit }
     ensures { Formed network unit v result }
 {
-    let odd = is_in_shares(network, unit, v);
-    if odd {
-        return SHARES;
-    }
-    if v < 10000 {
+    if is_in_shares(network, unit, v) {
+        SHARES
+    } else if v < 10000 {
         if unit == 100 {
-            return HUNDREDS;
+            HUNDREDS
+        } else if v % 10 == 0 {
+            TENS
+        } else {
+            SHARES
         }
-        if v % 10 == 0 {
-            return TENS;
-        }
-        return SHARES;
+    } else if unit == 100 {
+        FULL_HUNDREDS
+    } else {
+        FULL_TENS
     }
-    if unit == 100 {
-        return FULL_HUNDREDS;
-    }
-    FULL_TENS
 }
 
 // A hundred in hundreds prints nothing.
 pub fn is_unsaid(mark: usize, v: u64) -> bool
     ensures { result ≡ (eqb mark 0 && eqb v 100) }
 {
-    if mark != 0 {
-        return false;
-    }
-    v == 100
+    mark == 0 && v == 100
 }
 
 // A volume without its last `cut` digits.
@@ -158,13 +141,11 @@ fn figures_of(v: u64, cut: usize) -> u64
     requires { cut ≤ 2 }
     ensures { result ≡ v / 10 ^ cut }
 {
-    if cut == 0 {
-        return v;
+    match cut {
+        0 => v,
+        1 => v / 10,
+        _ => v / 100,
     }
-    if cut == 1 {
-        return v / 10;
-    }
-    v / 100
 }
 
 pub fn volume_length(network: u64, unit: u64, v: u64) -> usize
@@ -173,10 +154,10 @@ pub fn volume_length(network: u64, unit: u64, v: u64) -> usize
 {
     let f = form_of(network, unit, v);
     if is_unsaid(f.mark, v) {
-        return 0;
+        0
+    } else {
+        full_volume_length(figures_of(v, f.cut)) + f.size
     }
-    let n = figures_of(v, f.cut);
-    full_volume_length(n) + f.size
 }
 
 pub fn write_volume(rest: &mut [u8], network: u64, unit: u64, v: u64) -> usize
@@ -187,10 +168,6 @@ pub fn write_volume(rest: &mut [u8], network: u64, unit: u64, v: u64) -> usize
     if is_unsaid(f.mark, v) {
         return 0;
     }
-    let n = figures_of(v, f.cut);
-    let at = write_full_volume(rest, n);
-    let marks = MARKS;
-    let from = f.mark;
-    let to = from + f.size;
-    at + text::write_bytes(&mut rest[at..], &marks[from..to])
+    let at = write_full_volume(rest, figures_of(v, f.cut));
+    at + text::write_bytes(&mut rest[at..], &MARKS[f.mark..f.mark + f.size])
 }

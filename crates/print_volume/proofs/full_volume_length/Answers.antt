@@ -12,6 +12,6 @@ pub returns-then-n-lt1000000 : goal.returns-then-n-lt1000000
 unfolding full_volume
 returns-then-n-lt1000000 c = (search (choices, length_joined, group_length, groups_length), search rules)
 
-pub returns : goal.returns
+pub returns-else-n-lt1000000 : goal.returns-else-n-lt1000000
 unfolding full_volume
-returns c = (search (choices, length_joined, group_length, groups_length), search rules)
+returns-else-n-lt1000000 c = (search (choices, length_joined, group_length, groups_length), search rules)
