@@ -1,19 +1,16 @@
 -- Laws of price texts, in the form of the code's needs. Assumes nothing.
-use Prim.Native.Nat.{ℕ, ◌+◌, ◌-◌, ◌*◌, ◌/◌, ◌%◌, ◌^◌, ◌≤◌, ◌<◌}
-use native.Mathlib.Nat.{mul-lt-mul_of_pos_right, le_antisymm, one-le-pow}
+use Prim.Native.Nat.{ℕ, ◌+◌, ◌-◌, ◌*◌, ◌^◌, ◌≤◌, ◌<◌}
+use native.Mathlib.Nat.{mul-lt-mul_of_pos_right, one-le-pow}
 use native.Mathlib.Omega.{arith}
 use mathlib.Core.Path.{◌≡◌, refl}
-use mathlib.Core.List.{List, ◌++◌, []}
-use mathlib.Core.Bool.{Bool, true, false}
+use mathlib.Core.List.{List, ◌++◌}
+use mathlib.Core.Bool.{Bool}
 use lib.ListN.{length, length-append, take, drop}
 use lib.Pow.{pow-add}
 use Rattle.text.specs.Bytes.{bytes}
 use Rattle.text.specs.Put.{Written}
 use Rattle.text.specs.Decimal.{places}
-use lib.Dec.{eqb}
-use borrow.Author.Tests.{ne_eqb}
-use Rattle.text.specs.Pick.{pick}
-use Rattle.text.proofs.Writing.{named, then, room, shorter, length_joined, room_no}
+use Rattle.text.proofs.Writing.{named, then, room, shorter, length_joined}
 use Rattle.text.proofs.Decimal.{length_places}
 use Rattle.rules.specs.Price.{whole_part, fraction, units, whole_text, fraction_text, short_whole, dollars_text, price_text, form_by}
 use Rattle.rules.specs.declared.Price.{Price}
@@ -22,23 +19,8 @@ use Rattle.rules.specs.declared.PriceForm.{PriceForm}
 use Rattle.rules.specs.declared.PriceForm.TheVariants.{Full, Short}
 
 -- ---- powers of ten
-over_3 : (k : ℕ) → (k ≡ 0 → ⊥) → (k ≡ 1 → ⊥) → (k ≡ 2 → ⊥) → (k ≡ 3 → ⊥) → 4 ≤ k
-over_3 k a b c d = omega arith
-
-over_7 : (k : ℕ) → 4 ≤ k → (k ≡ 4 → ⊥) → (k ≡ 5 → ⊥) → (k ≡ 6 → ⊥) → (k ≡ 7 → ⊥) → 8 ≤ k
-over_7 k h a b c d = omega arith
-
-pub last_power : (k : ℕ) → k ≤ 8 → (k ≡ 0 → ⊥) → (k ≡ 1 → ⊥) → (k ≡ 2 → ⊥) → (k ≡ 3 → ⊥) → (k ≡ 4 → ⊥) → (k ≡ 5 → ⊥) → (k ≡ 6 → ⊥) → (k ≡ 7 → ⊥) → 100000000 ≡ 10 ^ k
-last_power k h a b c d e f g i = rw (le_antisymm h (over_7 k (over_3 k a b c d) e f g i))
 
 -- ---- whole part, fraction and value
-pub whole_is : (p : Price) (r : ℕ) → r ≡ 10 ^ p.d → p.n / r ≡ whole_part p
-unfolding whole_part
-whole_is p r e = rw e
-
-pub fraction_is : (p : Price) (r : ℕ) → r ≡ 10 ^ p.d → p.n % r ≡ fraction p
-unfolding fraction
-fraction_is p r e = rw e
 
 pub units_is : (p : Price) (r : ℕ) → r ≡ 10 ^ (8 - p.d) → p.n * r ≡ units p
 unfolding units
@@ -63,9 +45,6 @@ units_fit p r s e = omega (arith, units_below p r s e)
 pub dotted_length : (k f : ℕ) → 1 + k ≡ length (bytes "," ++ places k f)
 dotted_length k f = rw (length-append (bytes ",") (places k f), length_places)
 
-pub dotted_room : (k f m : ℕ) → length (pick (eqb f 0) [] (bytes "," ++ places k f)) ≤ m → (f ≡ 0 → ⊥) → k + 1 ≤ m
-dotted_room k f m l h = omega (arith, dotted_length k f, room_no (eqb f 0) [] (bytes "," ++ places k f) m l (ne_eqb f 0 h))
-
 pub short_is : (w : ℕ) → short_whole w ≡ places 1 w
 unfolding short_whole places
 short_is w = refl
@@ -84,32 +63,8 @@ module _ (form : PriceForm) (w : ℕ) where
   unfolding dollars_text
   one_length h = rw h (short_length w)
 
-  pub full_room : (m : ℕ) → length (dollars_text form w) ≤ m → form ≡ Full → length (whole_text w) ≤ m
-  unfolding dollars_text
-  full_room m l h = rw h at l
-
-  pub short_room : (m : ℕ) → length (dollars_text form w) ≤ m → form ≡ Short → 1 ≤ m
-  unfolding dollars_text
-  short_room m l h = omega (arith, one_length h)
-
-  pub written_full : {b a : List ℕ} {r : ℕ} → form ≡ Full → Written (whole_text w) b a r → Written (dollars_text form w) b a r
-  unfolding dollars_text
-  written_full h v = rw h v
-
-  pub written_short : {b a : List ℕ} {r : ℕ} → form ≡ Short → Written (places 1 w) b a r → Written (dollars_text form w) b a r
-  unfolding dollars_text
-  written_short h v = rw h (named (short_is w) v)
-
 pub form_as : (full test : Bool) (r : PriceForm) → full ≡ test → r ≡ form_by full → r ≡ form_by test
 form_as full test r e h = rw (← e) h
-
-pub form_full : (full : Bool) → full ≡ true → Full ≡ form_by full
-unfolding form_by pick
-form_full full h = rw h
-
-pub form_short : (full : Bool) → full ≡ false → Short ≡ form_by full
-unfolding form_by pick
-form_short full h = rw h
 
 -- ---- a price: the code's whole part w and fraction f are the definition's
 module _ (form : PriceForm) (p : Price) (w f : ℕ) where
