@@ -1,20 +1,12 @@
--- The letters as they are shown; a set that may have no letter: room for it, and its text. Assumes nothing.
+-- A set that may have no letter: room for it, and its text. Assumes nothing.
 use Prim.Native.Nat.{ℕ, ◌≤◌}
 use native.Mathlib.Omega.{arith}
 use mathlib.Core.Path.{◌≡◌, refl, sym, ap, ◌∙◌}
-use mathlib.Core.Bool.{Bool, false, ◌||◌}
 use mathlib.Core.List.{List, [], ◌∷◌}
 use lib.ListN.{length}
 use Rattle.text.specs.Bytes.{bytes}
 use Rattle.text.specs.Put.{put, Written}
-use Rattle.rules.specs.Shown.{shown_letters}
-use Rattle.rules.specs.declared.Letters.{Letters}
 use Rattle.facts_side.specs.Sides.{or_none}
-
-pub letters_shown : (x : Letters) (m k : Bool) → m ≡ (x.n || x.m) → k ≡ (x.c || x.k)
-    → record { o = x.o; s = x.s; l = x.l; n = false; m = m; c = false; k = k; b = x.b; t = x.t; r = x.r; j = x.j; g = x.g } ≡ shown_letters x
-unfolding shown_letters
-letters_shown x m k e f = rw (e, f)
 
 no_bytes : (t : List ℕ) → 0 ≡ length t → t ≡ []
 no_bytes [] e = refl

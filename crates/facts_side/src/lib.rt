@@ -1,7 +1,7 @@
 // A side that is shown in full, as text: price=P cond=L days=Y prev=Q vol=V. Prices are by value; `-` is none.
 #![tactic(auto)]
 
-ghost use Rattle.std.specs.Prelude.{◌≡◌, ◌||◌, ◌≤◌, length};
+ghost use Rattle.std.specs.Prelude.{◌≡◌, ◌≤◌, length};
 ghost use Rattle.text.specs.Put.{Written};
 ghost use Rattle.rules.specs.Shown.{shown_letters};
 ghost use Rattle.facts_side.specs.Sides.{sequence_letters, settlement_letters, other_letters, letters_text, or_none, set_and_days, conditions_with, conditions_text, priced_text, full_text};
@@ -10,32 +10,17 @@ use rules::Letters;
 
 // ---- conditions
 
-fn either(a: bool, b: bool) -> bool
-    ensures { result ≡ (a || b) }
-{
-    if a {
-        return true;
-    }
-    b
-}
-
 // The letters as they are shown: N as M, C as K.
+#[tactic(auto, unfolding(rules::specs::Shown::shown_letters))]
 pub fn shown_letters(x: Letters) -> Letters
     ensures { result ≡ shown_letters x }
 {
     Letters {
-        o: x.o,
-        s: x.s,
-        l: x.l,
         n: false,
-        m: either(x.n, x.m),
+        m: x.n || x.m,
         c: false,
-        k: either(x.c, x.k),
-        b: x.b,
-        t: x.t,
-        r: x.r,
-        j: x.j,
-        g: x.g,
+        k: x.c || x.k,
+        ..x
     }
 }
 
@@ -82,9 +67,10 @@ fn write_set(rest: &mut [u8], x: Letters) -> usize
 {
     let n = write_letters(rest, x);
     if n == 0 {
-        return text::write_bytes(rest, b"-");
+        text::write_bytes(rest, b"-")
+    } else {
+        n
     }
-    n
 }
 
 fn write_set_and_days(rest: &mut [u8], x: Letters, days: u64) -> usize
@@ -97,6 +83,7 @@ fn write_set_and_days(rest: &mut [u8], x: Letters, days: u64) -> usize
     k + facts_value::write_number(&mut rest[k..], days)
 }
 
+// Kept: letters, days and previous last apart, as the callers have them.
 pub fn write_conditions(rest: &mut [u8], letters: Letters, days: u64, previous: u64) -> usize
     requires { length (conditions_text (conditions_with letters days previous)) ≤ length rest.old }
     ensures { Written (conditions_text (conditions_with letters days previous)) rest.old rest.new result }

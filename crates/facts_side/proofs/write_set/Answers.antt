@@ -10,5 +10,5 @@ write_bytes-requires c = search sets
 pub returns-then-n-eq0 : goal.returns-then-n-eq0
 returns-then-n-eq0 c = search sets
 
-pub returns : goal.returns
-returns c = search sets
+pub returns-else-n-eq0 : goal.returns-else-n-eq0
+returns-else-n-eq0 c = search sets
