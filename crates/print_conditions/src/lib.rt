@@ -14,20 +14,14 @@ use rules::Letters;
 fn is_next_day(x: Letters) -> bool
     ensures { result ≡ (x.n || x.m) }
 {
-    if x.n {
-        return true;
-    }
-    x.m
+    x.n || x.m
 }
 
 // `,c` for C or K.
 fn is_cash(x: Letters) -> bool
     ensures { result ≡ (x.c || x.k) }
 {
-    if x.c {
-        return true;
-    }
-    x.k
+    x.c || x.k
 }
 
 fn write_next_day(rest: &mut [u8], x: Letters) -> usize
@@ -60,11 +54,10 @@ fn cash_length(x: Letters) -> usize
 pub fn after_name_length(x: Letters) -> usize
     ensures { (result ≡ length (after_name x)) × (result ≤ 20) }
 {
-    let a = next_day_length(x);
-    let b = text::optional_length(x.o, b".OPD");
-    let c = text::optional_length(x.s, b".SLD");
-    let d = text::optional_length(x.l, b".SLD.LAST");
-    a + b + c + d
+    next_day_length(x)
+        + text::optional_length(x.o, b".OPD")
+        + text::optional_length(x.s, b".SLD")
+        + text::optional_length(x.l, b".SLD.LAST")
 }
 
 pub fn write_after_name(rest: &mut [u8], x: Letters) -> usize
@@ -81,10 +74,7 @@ pub fn write_after_name(rest: &mut [u8], x: Letters) -> usize
 pub fn after_price_length(x: Letters) -> usize
     ensures { (result ≡ length (after_price x)) × (result ≤ 5) }
 {
-    let a = cash_length(x);
-    let b = text::optional_length(x.b, b",b");
-    let c = text::optional_length(x.t, b"t");
-    a + b + c
+    cash_length(x) + text::optional_length(x.b, b",b") + text::optional_length(x.t, b"t")
 }
 
 pub fn write_after_price(rest: &mut [u8], x: Letters) -> usize
