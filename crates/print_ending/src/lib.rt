@@ -13,10 +13,7 @@ use rules::{Price, PriceForm, Side};
 fn seller_length(r: bool, days: u64) -> usize
     ensures { (result ≡ length (opt r (seller_text days))) × (result ≤ 26) }
 {
-    if r {
-        return 6 + text::decimal_length(days);
-    }
-    0
+    if r { 6 + text::decimal_length(days) } else { 0 }
 }
 
 fn write_days(rest: &mut [u8], days: u64) -> usize
@@ -31,10 +28,7 @@ fn write_seller(rest: &mut [u8], r: bool, days: u64) -> usize
     requires { length (opt r (seller_text days)) ≤ length rest.old }
     ensures { Written (opt r (seller_text days)) rest.old rest.new result }
 {
-    if r {
-        return write_days(rest, days);
-    }
-    0
+    if r { write_days(rest, days) } else { 0 }
 }
 
 // The previous last in full between its pairs, if there is G.
@@ -43,9 +37,10 @@ fn previous_length(g: bool, p: Price) -> usize
     ensures { (result ≡ length (opt g (previous_text p))) × (result ≤ 42) }
 {
     if g {
-        return 11 + print_price::price_length(PriceForm::Full, p) + 2;
+        11 + print_price::price_length(PriceForm::Full, p) + 2
+    } else {
+        0
     }
-    0
 }
 
 fn write_last(rest: &mut [u8], p: Price) -> usize
@@ -61,10 +56,7 @@ fn write_previous(rest: &mut [u8], g: bool, p: Price) -> usize
     requires { (p.d ≤ 8) × (length (opt g (previous_text p)) ≤ length rest.old) }
     ensures { Written (opt g (previous_text p)) rest.old rest.new result }
 {
-    if g {
-        return write_last(rest, p);
-    }
-    0
+    if g { write_last(rest, p) } else { 0 }
 }
 
 // What stands at the end.
@@ -72,21 +64,16 @@ pub fn at_end_length(x: Side) -> usize
     requires { x.previous.d ≤ 8 }
     ensures { (result ≡ length (at_end x)) × (result ≤ 75) }
 {
-    let letters = x.letters;
-    let previous = x.previous;
-    let a = seller_length(letters.r, x.days);
-    let b = text::optional_length(letters.j, b"RULE127");
-    let c = previous_length(letters.g, previous);
-    a + b + c
+    seller_length(x.letters.r, x.days)
+        + text::optional_length(x.letters.j, b"RULE127")
+        + previous_length(x.letters.g, x.previous)
 }
 
 pub fn write_at_end(rest: &mut [u8], x: Side) -> usize
     requires { (x.previous.d ≤ 8) × (length (at_end x) ≤ length rest.old) }
     ensures { Written (at_end x) rest.old rest.new result }
 {
-    let letters = x.letters;
-    let previous = x.previous;
-    let at = write_seller(rest, letters.r, x.days);
-    let at2 = at + text::write_optional(&mut rest[at..], letters.j, b"RULE127");
-    at2 + write_previous(&mut rest[at2..], letters.g, previous)
+    let at = write_seller(rest, x.letters.r, x.days);
+    let at2 = at + text::write_optional(&mut rest[at..], x.letters.j, b"RULE127");
+    at2 + write_previous(&mut rest[at2..], x.letters.g, x.previous)
 }

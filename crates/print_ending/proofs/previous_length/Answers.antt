@@ -7,6 +7,6 @@ pub returns-then-g : goal.returns-then-g
 unfolding previous_text
 returns-then-g c = (search (options, length_joined), search rules)
 
-pub returns : goal.returns
+pub returns-else-g : goal.returns-else-g
 unfolding previous_text
-returns c = (search (options, length_joined), search rules)
+returns-else-g c = (search (options, length_joined), search rules)

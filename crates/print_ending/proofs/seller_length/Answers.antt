@@ -7,6 +7,6 @@ pub returns-then-r : goal.returns-then-r
 unfolding seller_text
 returns-then-r c = (search (options, length_joined), search rules)
 
-pub returns : goal.returns
+pub returns-else-r : goal.returns-else-r
 unfolding seller_text
-returns c = (search (options, length_joined), search rules)
+returns-else-r c = (search (options, length_joined), search rules)

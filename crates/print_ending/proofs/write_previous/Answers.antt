@@ -8,5 +8,5 @@ write_last-requires c = (search rules, search options)
 pub returns-then-g : goal.returns-then-g
 returns-then-g c = search options
 
-pub returns : goal.returns
-returns c = search options
+pub returns-else-g : goal.returns-else-g
+returns-else-g c = search options

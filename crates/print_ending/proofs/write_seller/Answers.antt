@@ -7,5 +7,5 @@ write_days-requires c = search options
 pub returns-then-r : goal.returns-then-r
 returns-then-r c = search options
 
-pub returns : goal.returns
-returns c = search options
+pub returns-else-r : goal.returns-else-r
+returns-else-r c = search options
