@@ -1,8 +1,8 @@
--- Laws of the announcements, mode by mode, in the form of the code's needs. Assumes nothing.
+-- Laws of the minimum price change in dollars, in the form of the code's needs. Assumes nothing.
 use Prim.Native.Nat.{ℕ, ◌-◌, ◌*◌, ◌/◌, ◌%◌, ◌≤◌}
 use native.Mathlib.Omega.{arith}
 use mathlib.Core.Path.{◌≡◌, sym}
-use mathlib.Core.List.{List, [], ◌++◌}
+use mathlib.Core.List.{List, ◌++◌}
 use lib.ListN.{length, take, drop}
 use Rattle.text.specs.Bytes.{bytes}
 use Rattle.text.specs.Decimal.{places}
@@ -10,9 +10,7 @@ use Rattle.text.specs.Put.{Written}
 use Rattle.text.proofs.Decimal.{length_places}
 use Rattle.text.proofs.Writing.{room}
 use Rattle.rules.specs.Price.{whole_text}
-use Rattle.rules.specs.Announcement.{minimum_dollars, minimum_text, mode_text, step_text}
-use Rattle.rules.specs.declared.Mode.{Mode}
-use Rattle.rules.specs.declared.Mode.TheVariants.{Normal, Dvd, Rpo, Mpv}
+use Rattle.rules.specs.Announcement.{minimum_dollars}
 
 pub two_places : (n : ℕ) → 2 ≡ length (places 2 n)
 two_places n = sym (length_places 2 n)
@@ -34,40 +32,3 @@ unfolding minimum_dollars
 dollars_is k =
     let w : 5 * k / 100 ≡ k / 20 = omega arith in
     rw (w, places_below (5 * k) (k % 20 * 5) (omega arith))
-
-module _ (m : Mode) (k : ℕ) where
-  pub mode_normal : m ≡ Normal → mode_text m k ≡ bytes "<<<TICKER.MODE.NORMAL>>"
-  unfolding mode_text
-  mode_normal e = rw e
-
-  pub mode_dvd : m ≡ Dvd → mode_text m k ≡ bytes "<<<NOW.IN.DIGITS.&.VOLUME.DELETED.MODE>>"
-  unfolding mode_text
-  mode_dvd e = rw e
-
-  pub mode_rpo : m ≡ Rpo → mode_text m k ≡ bytes "<<<NOW.IN.REPEAT.PRICES.OMITTED.MODE>>"
-  unfolding mode_text
-  mode_rpo e = rw e
-
-  pub mode_mpv : m ≡ Mpv → mode_text m k ≡ minimum_text k
-  unfolding mode_text
-  mode_mpv e = rw e
-
-  pub step_normal : m ≡ Normal → step_text m k ≡ []
-  unfolding step_text
-  step_normal e = rw e
-
-  pub step_dvd : m ≡ Dvd → step_text m k ≡ []
-  unfolding step_text
-  step_dvd e = rw e
-
-  pub step_rpo : m ≡ Rpo → step_text m k ≡ []
-  unfolding step_text
-  step_rpo e = rw e
-
-  pub step_mpv : m ≡ Mpv → step_text m k ≡ minimum_text k
-  unfolding step_text
-  step_mpv e = rw e
-
-pub ruleset modes = (mode_normal, mode_dvd, mode_rpo, mode_mpv)
-
-pub ruleset steps = (step_normal, step_dvd, step_rpo, step_mpv)

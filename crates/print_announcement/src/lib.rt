@@ -60,14 +60,13 @@ pub fn write_minimum(rest: &mut [u8], minimum: u64) -> usize
     requires { length (minimum_text minimum) ≤ length rest.old }
     ensures { Written (minimum_text minimum) rest.old rest.new result }
 {
-    let first = MINIMUM;
-    let last = MINIMUM_END;
-    let at = text::write_bytes(rest, &first);
+    let at = text::write_bytes(rest, &MINIMUM);
     let at2 = at + write_minimum_dollars(&mut rest[at..], minimum);
-    at2 + text::write_bytes(&mut rest[at2..], &last)
+    at2 + text::write_bytes(&mut rest[at2..], &MINIMUM_END)
 }
 
 // M: the mode entered.
+#[tactic(auto, unfolding(rules::specs::Announcement::mode_text))]
 pub fn mode_length(m: Mode, minimum: u64) -> usize
     ensures { (result ≡ length (mode_text m minimum)) × (result ≤ 54) }
 {
@@ -79,38 +78,15 @@ pub fn mode_length(m: Mode, minimum: u64) -> usize
     }
 }
 
-fn write_normal(rest: &mut [u8]) -> usize
-    requires { length (bytes "<<<TICKER.MODE.NORMAL>>") ≤ length rest.old }
-    ensures { Written (bytes "<<<TICKER.MODE.NORMAL>>") rest.old rest.new result }
-{
-    let t = NORMAL;
-    text::write_bytes(rest, &t)
-}
-
-fn write_dvd(rest: &mut [u8]) -> usize
-    requires { length (bytes "<<<NOW.IN.DIGITS.&.VOLUME.DELETED.MODE>>") ≤ length rest.old }
-    ensures { Written (bytes "<<<NOW.IN.DIGITS.&.VOLUME.DELETED.MODE>>") rest.old rest.new result }
-{
-    let t = DVD;
-    text::write_bytes(rest, &t)
-}
-
-fn write_rpo(rest: &mut [u8]) -> usize
-    requires { length (bytes "<<<NOW.IN.REPEAT.PRICES.OMITTED.MODE>>") ≤ length rest.old }
-    ensures { Written (bytes "<<<NOW.IN.REPEAT.PRICES.OMITTED.MODE>>") rest.old rest.new result }
-{
-    let t = RPO;
-    text::write_bytes(rest, &t)
-}
-
+#[tactic(auto, unfolding(rules::specs::Announcement::mode_text))]
 pub fn write_mode(rest: &mut [u8], m: Mode, minimum: u64) -> usize
     requires { length (mode_text m minimum) ≤ length rest.old }
     ensures { Written (mode_text m minimum) rest.old rest.new result }
 {
     match m {
-        Mode::Normal => write_normal(rest),
-        Mode::Dvd => write_dvd(rest),
-        Mode::Rpo => write_rpo(rest),
+        Mode::Normal => text::write_bytes(rest, &NORMAL),
+        Mode::Dvd => text::write_bytes(rest, &DVD),
+        Mode::Rpo => text::write_bytes(rest, &RPO),
         Mode::Mpv => write_minimum(rest, minimum), // the minimum in force
     }
 }
@@ -126,33 +102,29 @@ pub fn write_level(rest: &mut [u8], level: u64) -> usize
     requires { length (level_text level) ≤ length rest.old }
     ensures { Written (level_text level) rest.old rest.new result }
 {
-    let first = LEVEL;
-    let last = LEVEL_END;
-    let at = text::write_bytes(rest, &first);
+    let at = text::write_bytes(rest, &LEVEL);
     let at2 = at + print_volume::write_full_volume(&mut rest[at..], level);
-    at2 + text::write_bytes(&mut rest[at2..], &last)
+    at2 + text::write_bytes(&mut rest[at2..], &LEVEL_END)
 }
 
 // P: the minimum while in MPV, otherwise nothing.
+#[tactic(auto, unfolding(rules::specs::Announcement::step_text))]
 pub fn step_length(m: Mode, minimum: u64) -> usize
     ensures { (result ≡ length (step_text m minimum)) × (result ≤ 54) }
 {
     match m {
-        Mode::Normal => 0, // no text
-        Mode::Dvd => 0,
-        Mode::Rpo => 0,
+        Mode::Normal | Mode::Dvd | Mode::Rpo => 0, // no text
         Mode::Mpv => minimum_length(minimum), // the new minimum
     }
 }
 
+#[tactic(auto, using(text::proofs::Writing::written_nothing), unfolding(rules::specs::Announcement::step_text))]
 pub fn write_step(rest: &mut [u8], m: Mode, minimum: u64) -> usize
     requires { length (step_text m minimum) ≤ length rest.old }
     ensures { Written (step_text m minimum) rest.old rest.new result }
 {
     match m {
-        Mode::Normal => 0, // nothing written
-        Mode::Dvd => 0,
-        Mode::Rpo => 0,
+        Mode::Normal | Mode::Dvd | Mode::Rpo => 0, // nothing written
         Mode::Mpv => write_minimum(rest, minimum), // the new minimum
     }
 }
