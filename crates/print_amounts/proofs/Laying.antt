@@ -5,23 +5,13 @@ use native.Mathlib.Omega.{arith}
 use mathlib.Core.Path.{◌≡◌, refl, sym, ap, ◌∙◌}
 use mathlib.Core.List.{List, [], ◌∷◌, ◌++◌, append-nil, append_assoc}
 use lib.ListN.{length, take, drop, set, length-append, length-take, length-drop, length-set, drop_of_length-le, take-append-drop}
-use lib.Seq.{take-take, take_at, drop_at, take-append-add, take-suc-set, drop-set-lt, length-take-le, drop-drop, drop-length}
+use lib.Seq.{take-take, take_at, drop_at, take-append-add, take-suc-set, drop-set-lt, length-take-le, drop-drop}
 use Rattle.text.specs.Put.{put, Written}
 use Rattle.text.proofs.Writing.{length_put}
 use Rattle.text.proofs.Parts.{rest_is}
 
 pub length_part : (s : List ℕ) (from j : ℕ) → from + j ≤ length s → length (take j (drop from s)) ≡ j
 length_part s from j h = length-take-le j (drop from s) (omega (arith, length-drop from s))
-
--- j bytes of s, cut out and written over as many
-pub moved : (s z a : List ℕ) (from j r : ℕ) → Written (take (from + j - from) (drop from s)) z a r → length z ≡ j → from + j ≤ length s → a ≡ take j (drop from s)
-unfolding put
-moved s z a from j r w e h =
-    let q : from + j - from ≡ j = omega arith in
-    let t : List ℕ = take j (drop from s) in
-    let v : Written t z a r = rw q at w in
-    let l : length t ≡ length z = length_part s from j h ∙ sym e in
-    v.tape ∙ rw (l, drop-length z) (append-nil t)
 
 pub written_size : {t b a : List ℕ} {r : ℕ} → Written t b a r → length a ≡ length b
 written_size {t} {b} {a} {r} w = ap length w.tape ∙ length_put t b (omega (arith, w.count_is, w.within))

@@ -15,46 +15,23 @@ use rules::{Price, PriceForm};
 
 // ---- bytes by the move
 
-fn four(s: &[u8], from: usize) -> [u8; 4]
-    requires { from + 4 ≤ length s.now }
-    ensures { result ≡ take 4 (drop from s.now) }
+fn taken<const N: usize>(s: &[u8], from: usize) -> [u8; N]
+    requires { from + N ≤ length s.now }
+    ensures { result ≡ take N (drop from s.now) }
 {
-    let to = from + 4;
-    let mut a = [0u8; 4];
-    text::write_bytes(&mut a, &s[from..to]);
-    a
-}
-
-fn eight(s: &[u8], from: usize) -> [u8; 8]
-    requires { from + 8 ≤ length s.now }
-    ensures { result ≡ take 8 (drop from s.now) }
-{
-    let to = from + 8;
-    let mut a = [0u8; 8];
-    text::write_bytes(&mut a, &s[from..to]);
-    a
-}
-
-fn sixteen(s: &[u8], from: usize) -> [u8; 16]
-    requires { from + 16 ≤ length s.now }
-    ensures { result ≡ take 16 (drop from s.now) }
-{
-    let to = from + 16;
-    let mut a = [0u8; 16];
-    text::write_bytes(&mut a, &s[from..to]);
-    a
+    let mut bytes = [0u8; N];
+    bytes.copy_from_slice(&s[from..from + N]);
+    bytes
 }
 
 // ---- digits
 
 // 1 where a number is over a limit.
+#[tactic(auto, unfolding(text::specs::Pick::pick))]
 fn over(limit: u64, w: u64) -> usize
     ensures { (result ≡ pick (ltb limit w) 1 0) × (result ≤ 1) }
 {
-    if limit < w {
-        return 1;
-    }
-    0
+    if limit < w { 1 } else { 0 }
 }
 
 // How many digits a number up to 999,999 has.
@@ -81,9 +58,9 @@ fn write_marked(
     ensures { Written (take k (drop from part.now) ++ take size (drop mark marks.now)) rest.old rest.new result }
 {
     let m = k + size;
-    let kept = eight(rest, m);
-    let digits = four(part, from);
-    let last = four(marks, mark);
+    let kept: [u8; 8] = taken(rest, m);
+    let digits: [u8; 4] = taken(part, from);
+    let last: [u8; 4] = taken(marks, mark);
     text::write_bytes(rest, &digits);
     text::write_bytes(&mut rest[k..], &last);
     text::write_bytes(&mut rest[m..], &kept);
@@ -101,8 +78,7 @@ fn write_short(rest: &mut [u8], part: &[u8], network: u64, unit: u64, v: u64) ->
     }
     let k = digits_size(v) - f.cut;
     let from = 9 - f.cut - k;
-    let marks = print_volume::MARKS;
-    write_marked(rest, part, &marks, k, from, f.mark, f.size)
+    write_marked(rest, part, &print_volume::MARKS, k, from, f.mark, f.size)
 }
 
 // Where it is shown. `part` is the side's columns, the volume in the first 9.
@@ -120,12 +96,11 @@ pub fn write_volume(
     if !shows {
         return 0;
     }
-    if v < 10000 {
-        if 24 <= rest.len() {
-            return write_short(rest, part, network, unit, v);
-        }
+    if v < 10000 && 24 <= rest.len() {
+        write_short(rest, part, network, unit, v)
+    } else {
+        print_volume::write_volume(rest, network, unit, v)
     }
-    print_volume::write_volume(rest, network, unit, v)
 }
 
 // ---- the price
@@ -142,14 +117,12 @@ fn dollars_size(form: PriceForm, w: u64) -> usize
 }
 
 // The bytes of the price: of the dollars alone where the fraction is zero.
+#[tactic(auto, unfolding(text::specs::Pick::pick))]
 fn text_size(value: u64, k: usize, d: usize) -> usize
     requires { (k ≤ 6) × (d ≤ 8) }
     ensures { (result ≡ pick (eqb (value % 100000000) 0) k (k + 1 + d)) × (result ≤ k + 1 + d) }
 {
-    if value % 100000000 == 0 {
-        return k;
-    }
-    k + 1 + d
+    if value % 100000000 == 0 { k } else { k + 1 + d }
 }
 
 // The first m of: k columns of dollars, figure dot, d columns of the fraction. n ends in column 14.
@@ -159,13 +132,12 @@ fn write_columns(rest: &mut [u8], columns: &[u8], k: usize, d: usize, m: usize) 
 {
     let point = 14 - d;
     let from = point - k;
-    let j = k + 1;
-    let kept = sixteen(rest, m);
-    let dollars = eight(columns, from);
-    let part = eight(columns, point);
+    let kept: [u8; 16] = taken(rest, m);
+    let dollars: [u8; 8] = taken(columns, from);
+    let part: [u8; 8] = taken(columns, point);
     text::write_bytes(rest, &dollars);
     rest[k] = b',';
-    text::write_bytes(&mut rest[j..], &part);
+    text::write_bytes(&mut rest[k + 1..], &part);
     text::write_bytes(&mut rest[m..], &kept);
     m
 }
@@ -184,8 +156,7 @@ fn write_dollars(
 {
     let k = dollars_size(form, whole);
     let d = price.d as usize;
-    let m = text_size(value, k, d);
-    write_columns(rest, columns, k, d, m)
+    write_columns(rest, columns, k, d, text_size(value, k, d))
 }
 
 // `columns` are the side's from n on.
@@ -195,10 +166,9 @@ pub fn write_price(rest: &mut [u8], columns: &[u8], form: PriceForm, price: Pric
 {
     let value = print_price::in_units(price);
     let whole = value / 100000000;
-    if 0 < whole {
-        if 40 <= rest.len() {
-            return write_dollars(rest, columns, form, price, value, whole);
-        }
+    if 0 < whole && 40 <= rest.len() {
+        write_dollars(rest, columns, form, price, value, whole)
+    } else {
+        print_price::write_price(rest, form, price)
     }
-    print_price::write_price(rest, form, price)
 }

@@ -12,5 +12,5 @@ returns-then-rest-ge24 c = search (options, not-false)
 pub write_volume-requires : goal.write_volume-requires
 write_volume-requires c = (search rules, search (options, not-false))
 
-pub returns : goal.returns
-returns c = search (options, not-false)
+pub returns-else-v-lt10000 : goal.returns-else-v-lt10000
+returns-else-v-lt10000 c = search (options, not-false)

@@ -1,5 +1,0 @@
-use Rattle.print_amounts.proofs.Laying.{moved}
-use Rattle.print_amounts.proofs.eight.Goals as goal
-
-pub returns : goal.returns
-returns c = search moved
