@@ -7,7 +7,7 @@ use mathlib.Core.List.{List, [], ◌∷◌, append-nil}
 use lib.Dec.{eqb}
 use lib.ListN.{length, get_or, take, drop, length-take, length-drop}
 use lib.Seq.{drop-cons, take-take}
-use borrow.Author.Tests.{eqb-true, not-true, not-false}
+use borrow.Author.Tests.{eqb-true, not-false}
 use Rattle.text.specs.Pick.{opt, among}
 use Rattle.text.specs.Put.{Written}
 use Rattle.text.proofs.Writing.{written_nothing}
@@ -53,10 +53,10 @@ module _ (part : List ℕ) (x : Side) (h : SideColumns part x) where
     no_tail m = rw (no_letters_lem (blank_there m))
 
 -- where nothing is marked
-module _ (marked : Bool) (h : not marked ≡ true) where
+module _ (marked : Bool) (h : marked ≡ false) where
   pub head_alone : (name b a : List ℕ) (x : Letters) (n : ℕ) → (marked ≡ false → after_name x ≡ []) → Written name b a n → Written (head_text name x) b a n
   unfolding head_text
-  head_alone name b a x n f w = rw (f (not-true marked h), append-nil) w
+  head_alone name b a x n f w = rw (f h, append-nil) w
 
   pub no_tail_written : (x : Side) (b : List ℕ) → (marked ≡ false → tail_text x ≡ []) → Written (tail_text x) b b 0
-  no_tail_written x b f = rw (f (not-true marked h)) (written_nothing b)
+  no_tail_written x b f = rw (f h) (written_nothing b)

@@ -20,9 +20,10 @@ fn shown_volume_length(shows: bool, network: u64, unit: u64, v: u64) -> usize
     ensures { (result ≡ length (opt shows (volume_text network unit v))) × (result ≤ 32) }
 {
     if shows {
-        return print_volume::volume_length(network, unit, v);
+        print_volume::volume_length(network, unit, v)
+    } else {
+        0
     }
-    0
 }
 
 // The name and the conditions after it.
@@ -30,8 +31,7 @@ fn head_length(name: &[u8], temporary: bool, x: Letters) -> usize
     requires { length name.now ≡ name_width }
     ensures { (result ≡ length (head_text (name_text temporary name.now) x)) × (result ≤ 42) }
 {
-    let n = name_text::name_length(name, temporary);
-    n + print_conditions::after_name_length(x)
+    name_text::name_length(name, temporary) + print_conditions::after_name_length(x)
 }
 
 // `marked`: some letter stands in the line.
@@ -40,10 +40,11 @@ fn write_head(rest: &mut [u8], name: &[u8], temporary: bool, marked: bool, x: Le
     ensures { Written (head_text (name_text temporary name.now) x) rest.old rest.new result }
 {
     let at = name_text::write_name(rest, name, temporary);
-    if !marked {
-        return at;
+    if marked {
+        at + print_conditions::write_after_name(&mut rest[at..], x)
+    } else {
+        at
     }
-    at + print_conditions::write_after_name(&mut rest[at..], x)
 }
 
 // The conditions after the price and at the end.
@@ -51,21 +52,19 @@ fn tail_length(x: Side) -> usize
     requires { x.previous.d ≤ 8 }
     ensures { (result ≡ length (tail_text x)) × (result ≤ 80) }
 {
-    let letters = x.letters;
-    let a = print_conditions::after_price_length(letters);
-    a + print_ending::at_end_length(x)
+    print_conditions::after_price_length(x.letters) + print_ending::at_end_length(x)
 }
 
 fn write_tail(rest: &mut [u8], marked: bool, x: Side) -> usize
     requires { (x.previous.d ≤ 8) × (marked ≡ false → tail_text x ≡ []) × (length (tail_text x) ≤ length rest.old) }
     ensures { Written (tail_text x) rest.old rest.new result }
 {
-    if !marked {
-        return 0;
+    if marked {
+        let at = print_conditions::write_after_price(rest, x.letters);
+        at + print_ending::write_at_end(&mut rest[at..], x)
+    } else {
+        0
     }
-    let letters = x.letters;
-    let at = print_conditions::write_after_price(rest, letters);
-    at + print_ending::write_at_end(&mut rest[at..], x)
 }
 
 // A whole side: name, volume, price, conditions. The name is the columns of one, its temporary suffix shown or not.
@@ -81,12 +80,10 @@ pub fn side_length(
     requires { (length name.now ≡ name_width) × (1 ≤ unit) × (x.price.d ≤ 8) × (x.previous.d ≤ 8) }
     ensures { (result ≡ length (side_text (name_text temporary name.now) network unit form shows x)) × (result ≤ 183) }
 {
-    let letters = x.letters;
-    let price = x.price;
-    let a = head_length(name, temporary, letters);
-    let b = shown_volume_length(shows, network, unit, x.volume);
-    let c = print_price::price_length(form, price);
-    a + b + c + tail_length(x)
+    head_length(name, temporary, x.letters)
+        + shown_volume_length(shows, network, unit, x.volume)
+        + print_price::price_length(form, x.price)
+        + tail_length(x)
 }
 
 // `part` are the columns that the side stands in: volume and price are written from them, and where they hold no letter no
@@ -105,12 +102,10 @@ pub fn write_side(
     requires { (length name.now ≡ name_width) × (1 ≤ unit) × SideColumns part.now x × (length (side_text (name_text temporary name.now) network unit form shows x) ≤ length rest.old) }
     ensures { Written (side_text (name_text temporary name.now) network unit form shows x) rest.old rest.new result }
 {
-    let letters = x.letters;
-    let price = x.price;
     let marked = part[24] != b' ';
-    let at = write_head(rest, name, temporary, marked, letters);
+    let at = write_head(rest, name, temporary, marked, x.letters);
     let at2 = at
         + print_amounts::write_volume(&mut rest[at..], part, shows, network, unit, x.volume);
-    let at3 = at2 + print_amounts::write_price(&mut rest[at2..], &part[9..46], form, price);
+    let at3 = at2 + print_amounts::write_price(&mut rest[at2..], &part[9..46], form, x.price);
     at3 + write_tail(&mut rest[at3..], marked, x)
 }

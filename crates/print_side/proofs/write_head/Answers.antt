@@ -8,13 +8,13 @@ pub write_name-at-requires : goal.write_name-at-requires
 unfolding head_text
 write_name-at-requires c = record { name_len = search rules; name_in_bounds = search rooms depth 9 }
 
-pub returns-then-not-marked : goal.returns-then-not-marked
-returns-then-not-marked c = search head_alone
+pub returns-else-marked : goal.returns-else-marked
+returns-else-marked c = search head_alone
 
 pub write_after_name-requires : goal.write_after_name-requires
 unfolding head_text
 write_after_name-requires c = search rooms depth 9
 
-pub returns : goal.returns
+pub returns-then-marked : goal.returns-then-marked
 unfolding head_text
-returns c = search then
+returns-then-marked c = search then

@@ -4,8 +4,8 @@ use Rattle.print_side.proofs.Columns.{no_tail_written}
 use borrow.Author.Rules.{rules}
 use Rattle.print_side.proofs.write_tail.Goals as goal
 
-pub returns-then-not-marked : goal.returns-then-not-marked
-returns-then-not-marked c = search no_tail_written
+pub returns-else-marked : goal.returns-else-marked
+returns-else-marked c = search no_tail_written
 
 pub write_after_price-at-requires : goal.write_after_price-at-requires
 unfolding tail_text
@@ -15,6 +15,6 @@ pub write_at_end-requires : goal.write_at_end-requires
 unfolding tail_text
 write_at_end-requires c = (search rules, search rooms depth 9)
 
-pub returns : goal.returns
+pub returns-then-marked : goal.returns-then-marked
 unfolding tail_text
-returns c = search then
+returns-then-marked c = search then
