@@ -25,34 +25,17 @@ opening_length false = refl
 abbrev blank_name : List ℕ
 blank_name = bytes "                   "
 
-blank_name_lem : name_text false blank_name ≡ []
+pub no_name : name_text false blank_name ≡ []
 unfolding name_text part_text word span is_blank pick opt
-blank_name_lem = refl
+no_name = refl
 
--- a side whose name is repeated, or left out, as a callee answered q
-module _ (q t : Bool) (e : q ≡ t) (name : List ℕ) (network unit : ℕ) (form : PriceForm) (shows : Bool) (x : Side) where
-  pub length_repeated : (r : ℕ) → q ≡ true → r ≡ length (side_text name network unit form shows x) → r ≡ length (side_text (opt t name) network unit form shows x)
-  unfolding opt
-  length_repeated r h l = rw (← e, h) l
+-- a side whose name is repeated, or left out, by what stands for the name
+module _ (s t : List ℕ) (network unit : ℕ) (form : PriceForm) (shows : Bool) (x : Side) where
+  pub length_again : (r : ℕ) → s ≡ t → r ≡ length (side_text s network unit form shows x) → r ≡ length (side_text t network unit form shows x)
+  length_again r e l = rw e at l
 
-  pub length_unnamed : (r : ℕ) → q ≡ false → r ≡ length (side_text (name_text false blank_name) network unit form shows x) → r ≡ length (side_text (opt t name) network unit form shows x)
-  unfolding opt
-  length_unnamed r h l = rw (← e, h) (rw blank_name_lem at l)
+  pub room_again : (m : ℕ) → s ≡ t → length (side_text t network unit form shows x) ≤ m → length (side_text s network unit form shows x) ≤ m
+  room_again m e l = rw e l
 
-  pub room_repeated : (m : ℕ) → q ≡ true → length (side_text (opt t name) network unit form shows x) ≤ m → length (side_text name network unit form shows x) ≤ m
-  unfolding opt
-  room_repeated m h l = rw (← e, h) at l
-
-  pub room_unnamed : (m : ℕ) → q ≡ false → length (side_text (opt t name) network unit form shows x) ≤ m → length (side_text (name_text false blank_name) network unit form shows x) ≤ m
-  unfolding opt
-  room_unnamed m h l = rw blank_name_lem (rw (← e, h) at l)
-
-  pub written_repeated : (b a : List ℕ) (r : ℕ) → q ≡ true → Written (side_text name network unit form shows x) b a r → Written (side_text (opt t name) network unit form shows x) b a r
-  unfolding opt
-  written_repeated b a r h w = rw (← e, h) w
-
-  pub written_unnamed : (b a : List ℕ) (r : ℕ) → q ≡ false → Written (side_text (name_text false blank_name) network unit form shows x) b a r → Written (side_text (opt t name) network unit form shows x) b a r
-  unfolding opt
-  written_unnamed b a r h w = rw (← e, h) (rw blank_name_lem at w)
-
-pub ruleset repeated = (length_repeated, length_unnamed, room_repeated, room_unnamed, written_repeated, written_unnamed)
+  pub written_again : (b a : List ℕ) (r : ℕ) → s ≡ t → Written (side_text s network unit form shows x) b a r → Written (side_text t network unit form shows x) b a r
+  written_again b a r e w = rw e at w

@@ -21,65 +21,28 @@ use rules::{Letters, PriceForm, Side};
 fn end_pair_length(x: Side) -> usize
     ensures { (result ≡ length (end_pair x)) × (result ≤ 2) }
 {
-    let letters = x.letters;
-    text::optional_length(!letters.g, b">>")
+    text::optional_length(!x.letters.g, b">>")
 }
 
 fn write_end_pair(rest: &mut [u8], x: Side) -> usize
     requires { length (end_pair x) ≤ length rest.old }
     ensures { Written (end_pair x) rest.old rest.new result }
 {
-    let letters = x.letters;
-    text::write_optional(rest, !letters.g, b">>")
+    text::write_optional(rest, !x.letters.g, b">>")
 }
 
-// The correcting trade, with its name or without, by the letters: blank columns are no name.
-fn correcting_length(
-    letters: Letters,
-    name: &[u8],
-    network: u64,
-    unit: u64,
-    form: PriceForm,
-    shows: bool,
-    y: Side,
-) -> usize
-    requires { (length name.now ≡ name_width) × (1 ≤ unit) × (y.price.d ≤ 8) × (y.previous.d ≤ 8) }
-    ensures { (result ≡ length (side_text (opt (repeats_name letters) (name_text false name.now)) network unit form shows y)) × (result ≤ 183) }
+// The name of the correcting trade, where the letters repeat it: blank columns are no name.
+#[tactic(auto, using(crate::proofs::Amended::no_name), unfolding(text::specs::Pick::opt))]
+fn correcting_name(letters: Letters, name: &[u8]) -> &[u8]
+    requires { length name.now ≡ name_width }
+    ensures length { length result.now ≡ name_width }
+    ensures text { name_text false result.now ≡ opt (repeats_name letters) (name_text false name.now) }
 {
     if decide_letters::repeats_name(letters) {
-        return print_side::side_length(name, false, network, unit, form, shows, y);
+        name
+    } else {
+        b"                   "
     }
-    print_side::side_length(b"                   ", false, network, unit, form, shows, y)
-}
-
-fn write_correcting(
-    rest: &mut [u8],
-    letters: Letters,
-    name: &[u8],
-    network: u64,
-    unit: u64,
-    form: PriceForm,
-    shows: bool,
-    y: Side,
-    part: &[u8],
-) -> usize
-    requires { (length name.now ≡ name_width) × (1 ≤ unit) × SideColumns part.now y × (length (side_text (opt (repeats_name letters) (name_text false name.now)) network unit form shows y) ≤ length rest.old) }
-    ensures { Written (side_text (opt (repeats_name letters) (name_text false name.now)) network unit form shows y) rest.old rest.new result }
-{
-    if decide_letters::repeats_name(letters) {
-        return print_side::write_side(rest, name, false, network, unit, form, shows, y, part);
-    }
-    print_side::write_side(
-        rest,
-        b"                   ",
-        false,
-        network,
-        unit,
-        form,
-        shows,
-        y,
-        part,
-    )
 }
 
 // `<<ERR.` or `<<CXL.`.
@@ -88,9 +51,10 @@ fn write_opening(rest: &mut [u8], error: bool) -> usize
     ensures { Written (pick error error_opening cancel_opening) rest.old rest.new result }
 {
     if error {
-        return text::write_bytes(rest, b"<<ERR.");
+        text::write_bytes(rest, b"<<ERR.")
+    } else {
+        text::write_bytes(rest, b"<<CXL.")
     }
-    text::write_bytes(rest, b"<<CXL.")
 }
 
 // ---- cancels and errors
@@ -154,10 +118,11 @@ pub fn correction_length(
     requires { (length name.now ≡ name_width) × (1 ≤ unit) × (x.price.d ≤ 8) × (x.previous.d ≤ 8) × (y.price.d ≤ 8) × (y.previous.d ≤ 8) }
     ensures { result ≡ length (correction_text (name_text false name.now) network unit form shows x y) }
 {
-    let letters = y.letters; // the length, by the correcting trade
-    let a = print_side::side_length(name, false, network, unit, form, shows, x);
-    let b = correcting_length(letters, name, network, unit, form, shows, y);
-    7 + a + 4 + b + end_pair_length(y)
+    let again = correcting_name(y.letters, name); // for the length
+    7 + print_side::side_length(name, false, network, unit, form, shows, x)
+        + 4
+        + print_side::side_length(again, false, network, unit, form, shows, y)
+        + end_pair_length(y)
 }
 
 // The original between its opening and `WAS.`.
@@ -205,13 +170,13 @@ pub fn write_correction(
     requires { (length name.now ≡ name_width) × (1 ≤ unit) × SideColumns part.now x × SideColumns other.now y × (length (correction_text (name_text false name.now) network unit form shows x y) ≤ length rest.old) }
     ensures { Written (correction_text (name_text false name.now) network unit form shows x y) rest.old rest.new result }
 {
-    let letters = y.letters; // the text, by the correcting trade
+    let again = correcting_name(y.letters, name); // for the text
     let at = write_original(rest, name, network, unit, form, shows, x, part);
     let at2 = at
-        + write_correcting(
+        + print_side::write_side(
             &mut rest[at..],
-            letters,
-            name,
+            again,
+            false,
             network,
             unit,
             form,

@@ -7,8 +7,8 @@ write_bytes-requires c = search choices
 pub returns-then-error : goal.returns-then-error
 returns-then-error c = search choices
 
-pub write_bytes-requires-2 : goal.write_bytes-requires-2
-write_bytes-requires-2 c = search choices
+pub write_bytes-requires-else-error : goal.write_bytes-requires-else-error
+write_bytes-requires-else-error c = search choices
 
-pub returns : goal.returns
-returns c = search choices
+pub returns-else-error : goal.returns-else-error
+returns-else-error c = search choices
