@@ -12,7 +12,8 @@ ghost use Rattle.print_price.specs.Sound.{Sound};
 
 use rules::{Price, PriceForm};
 
-// Ten to the power k. Kept: a table, since each trade asks for it, and `pow` is a loop.
+// Ten to the power k.
+// Kept: a table, since each trade asks for it; `pow` is a loop.
 pub fn power(k: u64) -> u64
     requires { k ≤ 8 }
     ensures { (result ≡ 10 ^ k) × (1 ≤ result) }

@@ -67,6 +67,8 @@ fn write_tail(rest: &mut [u8], marked: bool, x: Side) -> usize
     }
 }
 
+// Kept: network, unit, form and shows apart, here and in print_amendment, as the callers have them.
+
 // A whole side: name, volume, price, conditions. The name is the columns of one, its temporary suffix shown or not.
 pub fn side_length(
     name: &[u8],
