@@ -2,7 +2,7 @@
 // low and last, which network has a letter, whether a security is entered and shows its temporary suffix.
 #![tactic(auto)]
 
-ghost use Rattle.std.specs.Prelude.{◌≡◌, ◌||◌, not, eqb};
+ghost use Rattle.std.specs.Prelude.{◌≡◌};
 ghost use Rattle.rules.specs.Conditions.{has_rule, on_network};
 ghost use Rattle.rules.specs.Qualifying.{for_neither, for_range_only, for_range, for_last};
 ghost use Rattle.rules.specs.Correction.{repeats_name};
@@ -13,35 +13,23 @@ use rules::{Letters, Security};
 // ---- letters (Price and conditions)
 
 // Any of C N R B.
+#[tactic(auto, unfolding(rules::specs::Qualifying::for_neither))]
 fn for_neither(x: Letters) -> bool
     ensures { result ≡ for_neither x }
 {
-    if x.c {
-        return true;
-    }
-    if x.n {
-        return true;
-    }
-    if x.r {
-        return true;
-    }
-    x.b
+    x.c || x.n || x.r || x.b
 }
 
 // Any of O S L.
+#[tactic(auto, unfolding(rules::specs::Qualifying::for_range_only))]
 fn for_range_only(x: Letters) -> bool
     ensures { result ≡ for_range_only x }
 {
-    if x.o {
-        return true;
-    }
-    if x.s {
-        return true;
-    }
-    x.l
+    x.o || x.s || x.l
 }
 
 // The trade qualifies for high and low.
+#[tactic(auto, unfolding(rules::specs::Qualifying::for_range))]
 pub fn for_range(x: Letters) -> bool
     ensures { result ≡ for_range x }
 {
@@ -49,75 +37,40 @@ pub fn for_range(x: Letters) -> bool
 }
 
 // The trade qualifies for last.
+#[tactic(auto, unfolding(rules::specs::Qualifying::for_last, rules::specs::Qualifying::for_range))]
 pub fn for_last(x: Letters) -> bool
     ensures { result ≡ for_last x }
 {
-    if !for_range(x) {
-        return false;
-    }
-    !for_range_only(x)
+    for_range(x) && !for_range_only(x)
 }
 
 // J or G.
+#[tactic(auto, unfolding(rules::specs::Conditions::has_rule))]
 pub fn has_rule(x: Letters) -> bool
     ensures { result ≡ has_rule x }
 {
-    if x.j {
-        return true;
-    }
-    x.g
+    x.j || x.g
 }
 
 // Any of S L O C K N M B: the name repeats after WAS. (Corrections and cancels).
-pub fn repeats_name(letters: Letters) -> bool
-    ensures { result ≡ repeats_name letters }
+#[tactic(auto, unfolding(rules::specs::Correction::repeats_name))]
+pub fn repeats_name(x: Letters) -> bool
+    ensures { result ≡ repeats_name x }
 {
-    if letters.s {
-        return true;
-    }
-    if letters.l {
-        return true;
-    }
-    if letters.o {
-        return true;
-    }
-    if letters.c {
-        return true;
-    }
-    if letters.k {
-        return true;
-    }
-    if letters.n {
-        return true;
-    }
-    if letters.m {
-        return true;
-    }
-    letters.b
-}
-
-// A letter that one network alone has.
-fn on_its_network(letter: bool, network: u64, own: u64) -> bool
-    ensures { result ≡ (not letter || eqb network own) }
-{
-    if !letter {
-        return true;
-    }
-    network == own
+    x.s || x.l || x.o || x.c || x.k || x.n || x.m || x.b
 }
 
 // J on network A only, G on B only.
+#[tactic(auto, unfolding(rules::specs::Conditions::on_network))]
 pub fn on_network(network: u64, x: Letters) -> bool
     ensures { result ≡ on_network network x }
 {
-    if !on_its_network(x.j, network, 65) {
-        return false;
-    }
-    on_its_network(x.g, network, 66)
+    (!x.j || network == u64::from(b'A')) && (!x.g || network == u64::from(b'B'))
 }
 
 // ---- a security
 
+#[tactic(auto, unfolding(rules::specs::Day::is_entered))]
 pub fn is_entered(s: Security) -> bool
     ensures { result ≡ is_entered s }
 {
@@ -125,6 +78,7 @@ pub fn is_entered(s: Security) -> bool
 }
 
 // The temporary suffix, on the first five trades of the security's day.
+#[tactic(auto, unfolding(rules::specs::Day::shows_temporary))]
 pub fn shows_temporary(s: Security) -> bool
     ensures { result ≡ shows_temporary s }
 {
