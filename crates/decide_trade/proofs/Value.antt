@@ -1,46 +1,17 @@
 -- What the rules say of a side is what they say of its values. Assumes nothing.
 use Prim.Native.Nat.{ℕ}
 use mathlib.Core.Path.{◌≡◌, refl}
-use mathlib.Core.Bool.{Bool, true, ◌&&◌}
-use lib.Dec.{eqb}
-use Rattle.text.specs.Pick.{pick}
-use Rattle.rules.specs.declared.Mode.{Mode}
-use Rattle.rules.specs.declared.Mode.TheVariants.{Normal, Dvd, Rpo, Mpv}
+use mathlib.Core.Bool.{Bool}
 use Rattle.rules.specs.declared.Side.{Side}
 use Rattle.rules.specs.declared.Settings.{Settings}
-use Rattle.rules.specs.declared.Issue.{Issue}
-use Rattle.rules.specs.declared.Printed.{Printed}
-use Rattle.rules.specs.declared.Range.{Range}
-use Rattle.rules.specs.declared.Counts.{Counts}
 use Rattle.rules.specs.declared.Security.{Security}
 use Rattle.rules.specs.Price.{whole_part, units, form_by}
 use Rattle.rules.specs.Conditions.{has_rule}
 use Rattle.rules.specs.Qualifying.{for_range, for_last}
-use Rattle.rules.specs.Trade.{first_qualifying, new_high, new_low, new_range, full_price, shows_volume, prints_anyhow, prints_trade, trade_full, trade_form, trade_shows, range_after, printed_after, counted, counts_after, after_trade}
+use Rattle.rules.specs.Trade.{first_qualifying, new_range, full_price, shows_volume, prints_anyhow, prints_trade, trade_full, trade_form, trade_shows, range_after, printed_after, counts_after, after_trade}
 use Rattle.decide_levels.specs.Parts.{new_at}
 use Rattle.decide_trade.specs.Value.{first_by, anyhow_by, rpo_by, mpv_by, by_mode, prints_by, full_by, shows_by, range_by, printed_by, counts_by, after_by}
 use Rattle.rules.specs.declared.PriceForm.{PriceForm}
-
--- ---- by mode
-
-module _ (m : Mode) (rpo mpv : Bool) where
-  pub mode_normal : m ≡ Normal → true ≡ by_mode m rpo mpv
-  unfolding by_mode
-  mode_normal h = rw h
-
-  pub mode_dvd : m ≡ Dvd → true ≡ by_mode m rpo mpv
-  unfolding by_mode
-  mode_dvd h = rw h
-
-  pub mode_rpo : (r : Bool) → m ≡ Rpo → r ≡ rpo → r ≡ by_mode m rpo mpv
-  unfolding by_mode
-  mode_rpo r h e = rw h e
-
-  pub mode_mpv : (r : Bool) → m ≡ Mpv → r ≡ mpv → r ≡ by_mode m rpo mpv
-  unfolding by_mode
-  mode_mpv r h e = rw h e
-
-pub ruleset by_mode_lem = (mode_normal, mode_dvd, mode_rpo, mode_mpv)
 
 -- ---- of a side
 
@@ -74,39 +45,3 @@ module _ (st : Settings) (s : Security) (market : ℕ) (x : Side) where
 
   pub side_after : (value : ℕ) (prints ranges lasts : Bool) (r : Security) → value ≡ units x.price → prints ≡ prints_trade st s market x → ranges ≡ for_range x.letters → lasts ≡ for_last x.letters → r ≡ after_by s market value prints ranges lasts → r ≡ after_trade st s market x
   side_after value prints ranges lasts r v p q l e = rw (after_is, ← v, ← p, ← q, ← l) e
-
--- ---- the security after it, part by part, with what callees answered
-
-pub range_moved : (r : Range) (value : ℕ) (ranges lasts highest lowest : Bool) (high low last : ℕ)
-    → highest ≡ new_high r value
-    → lowest ≡ new_low r value
-    → high ≡ pick (ranges && highest) value r.high
-    → low ≡ pick (ranges && lowest) value r.low
-    → last ≡ pick (true && lasts) value r.last
-    → record { high = high; low = low; last = last } ≡ range_by r value ranges lasts
-unfolding range_by
-range_moved r value ranges lasts highest lowest high low last h w e f g = rw (e, f, g, h, w)
-
-pub range_side : (r a : Range) (x : Side) (value : ℕ) (ranges lasts : Bool) → value ≡ units x.price → ranges ≡ for_range x.letters → lasts ≡ for_last x.letters → a ≡ range_by r value ranges lasts → a ≡ range_after r x
-unfolding range_after range_by
-range_side r a x value ranges lasts v q l e = rw (← v, ← q, ← l) e
-
-pub printed_moved : (p : Printed) (value price : ℕ) (prints : Bool) → price ≡ pick (true && prints) value p.price → record { price = price } ≡ printed_by p value prints
-unfolding printed_by
-printed_moved p value price prints e = rw e
-
-pub counts_moved : (i : Issue) (c : Counts) (market : ℕ) (lasts : Bool) (trades qualified primaries : ℕ)
-    → trades ≡ counted true 5 c.trades
-    → qualified ≡ counted lasts 1 c.qualified
-    → primaries ≡ counted (eqb market i.market) 6 c.primaries
-    → record { trades = trades; qualified = qualified; primaries = primaries } ≡ counts_by i c market lasts
-unfolding counts_by
-counts_moved i c market lasts trades qualified primaries e f g = rw (e, f, g)
-
-pub after_moved : (s : Security) (market value : ℕ) (prints ranges lasts : Bool) (printed : Printed) (range : Range) (counts : Counts)
-    → printed ≡ printed_by s.printed value prints
-    → range ≡ range_by s.range value ranges lasts
-    → counts ≡ counts_by s.issue s.counts market lasts
-    → record { issue = s.issue; printed = printed; range = range; counts = counts } ≡ after_by s market value prints ranges lasts
-unfolding after_by
-after_moved s market value prints ranges lasts printed range counts e f g = rw (e, f, g)
