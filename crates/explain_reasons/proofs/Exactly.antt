@@ -1,6 +1,6 @@
 -- A reason is given exactly where the rules print the line, its price in full, its volume: nothing that prints has no reason, and nothing that is left off has one. Assumes nothing.
 use Prim.Native.Nat.{ℕ}
-use mathlib.Core.Path.{◌≡◌, refl, sym, ap, ◌∙◌}
+use mathlib.Core.Path.{◌≡◌, refl, sym, ◌∙◌}
 use mathlib.Core.Bool.{Bool, true, false, ◌&&◌, ◌||◌, not}
 use lib.Dec.{leb, eqb}
 use Rattle.text.specs.Pick.{pick}
@@ -17,10 +17,7 @@ use Rattle.rules.specs.declared.Side.{Side}
 use Rattle.rules.specs.declared.Settings.{Settings}
 use Rattle.rules.specs.declared.Security.{Security}
 use Rattle.decide_levels.specs.Parts.{prints_rpo, prints_mpv, last_unlike, last_far}
-use Rattle.decide_levels.proofs.Values as values
-use Rattle.decide_correction.proofs.Corrected as corrected
-use Rattle.explain_reasons.proofs.Given.{in_normal_lem, in_dvd, in_rpo, in_mpv}
-use Rattle.explain_reasons.specs.Reasons.{always, in_normal, shown_in_normal, tens_left, rpo_trade, mpv_trade, trade_prints, dvd_correction, later_correction, correction_prints, full_by, trade_full_by, correction_full_by, cancel_full_by, trade_shows_by, correction_shows_by, cancel_shows_by, some_print, some_full, some_volume}
+use Rattle.explain_reasons.specs.Reasons.{in_mode, always, in_normal, shown_in_normal, tens_left, rpo_trade, mpv_trade, trade_prints, dvd_correction, later_correction, correction_prints, full_by, trade_full_by, correction_full_by, cancel_full_by, trade_shows_by, correction_shows_by, cancel_shows_by, some_print, some_full, some_volume}
 
 -- either of two, each asked with the same condition
 both_asked : (f a b c : Bool) → ((f && a) || ((f && b) || c)) ≡ ((f && (a || b)) || c)
@@ -44,14 +41,14 @@ unfolding some_print always
 always_given = refl
 
 pub trade_printed : (st : Settings) (s : Security) (market : ℕ) (x : Side) → some_print (trade_prints st s market x) ≡ prints_trade st s market x
-unfolding trade_prints
-trade_printed st s market x = go st.mode refl
+unfolding trade_prints in_mode prints_trade prints_rpo prints_mpv prints_anyhow last_unlike last_far
+trade_printed st s market x = go st.mode
   where
-    go : (m : Mode) → st.mode ≡ m → some_print (trade_prints st s market x) ≡ prints_trade st s market x
-    go Normal h = ap some_print (sym (in_normal_lem st.mode always _ _ _ _ h refl)) ∙ (always_given ∙ values.prints_normal st s market x h)
-    go Dvd h = ap some_print (sym (in_dvd st.mode always _ _ _ _ h refl)) ∙ (always_given ∙ values.prints_dvd st s market x h)
-    go Rpo h = ap some_print (sym (in_rpo st.mode (rpo_trade st s market x) _ _ _ _ h refl)) ∙ values.prints_rpo_lem st s market x _ h (rpo_exactly st s market x)
-    go Mpv h = ap some_print (sym (in_mpv st.mode (mpv_trade st s market x) _ _ _ _ h refl)) ∙ values.prints_mpv_lem st s market x _ h (mpv_exactly st s market x)
+    go : (m : Mode) → some_print (in_mode m always always (rpo_trade st s market x) (mpv_trade st s market x)) ≡ elim m [ Normal ↦ true | Dvd ↦ true | Rpo ↦ prints_rpo st s market x | Mpv ↦ prints_mpv st s market x ]
+    go Normal = always_given
+    go Dvd = always_given
+    go Rpo = rpo_exactly st s market x
+    go Mpv = mpv_exactly st s market x
 
 full_exactly : (none tens zero unit thousand six : Bool) → (none || ((not none && tens) || (zero || (unit || (thousand || (six || false)))))) ≡ (none || (tens || (zero || (unit || (thousand || six)))))
 full_exactly true tens zero unit thousand six = refl
@@ -112,14 +109,16 @@ in_later_exactly st s x y asked =
     asked
 
 pub correction_printed : (st : Settings) (s : Security) (x y : Side) → some_print (correction_prints st s x y) ≡ prints_correction st s x y
-unfolding correction_prints
-correction_printed st s x y = go st.mode refl
+unfolding correction_prints in_mode prints_correction
+correction_printed st s x y = go st.mode
   where
-    go : (m : Mode) → st.mode ≡ m → some_print (correction_prints st s x y) ≡ prints_correction st s x y
-    go Normal h = ap some_print (sym (in_normal_lem st.mode always _ _ _ _ h refl)) ∙ (always_given ∙ corrected.prints_normal st s x y h)
-    go Dvd h = ap some_print (sym (in_dvd st.mode (dvd_correction st s x y) _ _ _ _ h refl)) ∙ corrected.prints_dvd st s x y _ h (in_dvd_exactly st s x y)
-    go Rpo h = ap some_print (sym (in_rpo st.mode (later_correction st s x y false) _ _ _ _ h refl)) ∙ corrected.prints_rpo_lem st s x y _ h (in_later_exactly st s x y false)
-    go Mpv h = ap some_print (sym (in_mpv st.mode (later_correction st s x y (has_rule x.letters)) _ _ _ _ h refl)) ∙ corrected.prints_mpv_lem st s x y _ h (in_later_exactly st s x y (has_rule x.letters))
+    go : (m : Mode)
+        → some_print (in_mode m always (dvd_correction st s x y) (later_correction st s x y false) (later_correction st s x y (has_rule x.letters)))
+        ≡ elim m [ Normal ↦ true | Dvd ↦ prints_in_dvd st s x y | Rpo ↦ has_rule y.letters || prints_in_both st s x y | Mpv ↦ (has_rule x.letters || has_rule y.letters) || prints_in_both st s x y ]
+    go Normal = always_given
+    go Dvd = in_dvd_exactly st s x y
+    go Rpo = in_later_exactly st s x y false
+    go Mpv = in_later_exactly st s x y (has_rule x.letters)
 
 corrected_full : (tens unit whole original : Bool) → (tens || (unit || (whole || original))) ≡ (unit || (original || (whole || tens)))
 corrected_full true unit whole original = simp or_true

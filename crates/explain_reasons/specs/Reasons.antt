@@ -28,7 +28,7 @@ in_mode Mpv normal dvd rpo mpv = mpv
 
 -- every line of the kind prints
 unfoldable pub always : PrintReasons
-always = record { every = true; high = false; low = false; price = false; distance = false; first = false; six = false; level = false; unit = false; rule = false; differ = false; seller = false; last = false; originallevel = false; originalrule = false }
+always = record { every = true; high = false; low = false; price = false; distance = false; first = false; six = false; level = false; unit = false; rule = false; differ = false; seller = false; last = false; original_level = false; original_rule = false }
 
 -- a trade in RPO
 unfoldable pub rpo_trade : Settings → Security → ℕ → Side → PrintReasons
@@ -46,8 +46,8 @@ rpo_trade st s market x = record {
   differ = false;
   seller = false;
   last = false;
-  originallevel = false;
-  originalrule = false;
+  original_level = false;
+  original_rule = false;
 }
 
 -- a trade in MPV
@@ -66,8 +66,8 @@ mpv_trade st s market x = record {
   differ = false;
   seller = false;
   last = false;
-  originallevel = false;
-  originalrule = false;
+  original_level = false;
+  original_rule = false;
 }
 
 unfoldable pub trade_prints : Settings → Security → ℕ → Side → PrintReasons
@@ -89,8 +89,8 @@ dvd_correction st s original correcting = record {
   differ = prices_differ original correcting && at_level st correcting.volume;
   seller = false;
   last = false;
-  originallevel = false;
-  originalrule = false;
+  original_level = false;
+  original_rule = false;
 }
 
 -- a correction in RPO and MPV, with the original's J or G where the mode asks for it
@@ -109,8 +109,8 @@ later_correction st s original correcting asked = record {
   differ = false;
   seller = (original.letters.r || correcting.letters.r) && prices_differ original correcting;
   last = for_last correcting.letters && unlike_last s.range (units correcting.price);
-  originallevel = at_level st original.volume;
-  originalrule = asked;
+  original_level = at_level st original.volume;
+  original_rule = asked;
 }
 
 unfoldable pub correction_prints : Settings → Security → Side → Side → PrintReasons
@@ -221,8 +221,8 @@ some_print r =
     || (r.differ
     || (r.seller
     || (r.last
-    || (r.originallevel
-    || r.originalrule)))))))))))))
+    || (r.original_level
+    || r.original_rule)))))))))))))
 
 unfoldable pub some_full : FullReasons → Bool
 some_full r = r.normal || (r.none || (r.tens || (r.zero || (r.unit || (r.thousand || (r.six || (r.whole || r.original)))))))
