@@ -29,8 +29,8 @@ print_short r =
       opt_short r.differ (bytes ":differ"),
       opt_short r.seller (bytes ":seller"),
       opt_short r.last (bytes ":last"),
-      opt_short r.originallevel (bytes ":original-level"),
-      opt_short r.originalrule (bytes ":original-rule"),
+      opt_short r.original_level (bytes ":original-level"),
+      opt_short r.original_rule (bytes ":original-rule"),
     ))
 
 price_short : (r : FullReasons) → length (price_text r) ≤ 67

@@ -26,7 +26,7 @@ abbrev pub rule_reasons : PrintReasons → List ℕ
 rule_reasons r = three r.rule (bytes ":rule") r.differ (bytes ":differ") r.seller (bytes ":seller")
 
 abbrev pub last_reasons : PrintReasons → List ℕ
-last_reasons r = three r.last (bytes ":last") r.originallevel (bytes ":original-level") r.originalrule (bytes ":original-rule")
+last_reasons r = three r.last (bytes ":last") r.original_level (bytes ":original-level") r.original_rule (bytes ":original-rule")
 
 unfoldable pub print_reasons : PrintReasons → List ℕ
 print_reasons r = range_reasons r ++ first_reasons r ++ unit_reasons r ++ rule_reasons r ++ last_reasons r

@@ -80,9 +80,9 @@ fn write_last_reasons(rest: &mut [u8], r: PrintReasons) -> usize
         rest,
         r.last,
         b":last",
-        r.originallevel,
+        r.original_level,
         b":original-level",
-        r.originalrule,
+        r.original_rule,
         b":original-rule",
     )
 }
@@ -100,50 +100,20 @@ fn write_print_reasons(rest: &mut [u8], r: PrintReasons) -> usize
 
 // ---- why its price is in full
 
-fn some_whole(r: FullReasons) -> bool
-    ensures { result ≡ (r.thousand || (r.six || (r.whole || r.original))) }
-{
-    if r.thousand {
-        return true;
-    }
-    if r.six {
-        return true;
-    }
-    if r.whole {
-        return true;
-    }
-    r.original
-}
-
+#[tactic(auto, unfolding(explain_reasons::specs::Reasons::some_full))]
 fn some_full(r: FullReasons) -> bool
     ensures { result ≡ some_full r }
 {
-    if r.normal {
-        return true;
-    }
-    if r.none {
-        return true;
-    }
-    if r.tens {
-        return true;
-    }
-    if r.zero {
-        return true;
-    }
-    if r.unit {
-        return true;
-    }
-    some_whole(r)
+    r.normal || r.none || r.tens || r.zero || r.unit || r.thousand || r.six || r.whole || r.original
 }
 
+#[tactic(auto, unfolding(crate::specs::Text::price_word, text::specs::Pick::pick))]
 fn write_price_word(rest: &mut [u8], r: FullReasons) -> usize
     requires { length (price_word r) ≤ length rest.old }
     ensures { Written (price_word r) rest.old rest.new result }
 {
-    if some_full(r) {
-        return text::write_bytes(rest, b"full");
-    }
-    text::write_bytes(rest, b"short")
+    let word: &[u8] = if some_full(r) { b"full" } else { b"short" };
+    text::write_bytes(rest, word)
 }
 
 fn write_tens_reasons(rest: &mut [u8], r: FullReasons) -> usize
@@ -185,6 +155,7 @@ fn write_side_reasons(rest: &mut [u8], r: FullReasons) -> usize
     )
 }
 
+#[tactic(auto, unfolding(crate::specs::Text::full_reasons), using(text::proofs::Writing::room, text::proofs::Writing::shorter, text::proofs::Writing::then))]
 fn write_full_reasons(rest: &mut [u8], r: FullReasons) -> usize
     requires { length (full_reasons r) ≤ length rest.old }
     ensures { Written (full_reasons r) rest.old rest.new result }
@@ -205,32 +176,20 @@ fn write_price(rest: &mut [u8], r: FullReasons) -> usize
 
 // ---- why its volume is shown
 
+#[tactic(auto, unfolding(explain_reasons::specs::Reasons::some_volume))]
 fn some_volume(r: VolumeReasons) -> bool
     ensures { result ≡ some_volume r }
 {
-    if r.normal {
-        return true;
-    }
-    if r.level {
-        return true;
-    }
-    if r.first {
-        return true;
-    }
-    if r.six {
-        return true;
-    }
-    r.rule
+    r.normal || r.level || r.first || r.six || r.rule
 }
 
+#[tactic(auto, unfolding(crate::specs::Text::volume_word, text::specs::Pick::pick))]
 fn write_volume_word(rest: &mut [u8], r: VolumeReasons) -> usize
     requires { length (volume_word r) ≤ length rest.old }
     ensures { Written (volume_word r) rest.old rest.new result }
 {
-    if some_volume(r) {
-        return text::write_bytes(rest, b"shown");
-    }
-    text::write_bytes(rest, b"off")
+    let word: &[u8] = if some_volume(r) { b"shown" } else { b"off" };
+    text::write_bytes(rest, word)
 }
 
 fn write_level_reasons(rest: &mut [u8], r: VolumeReasons) -> usize
