@@ -8,94 +8,52 @@
 #![tactic(auto)]
 
 ghost use Rattle.std.specs.Prelude.{◌≡◌, ◌||◌, ◌≤◌, length};
+ghost use Rattle.std.specs.List.{flat_map};
+ghost use Rattle.text.specs.Pick.{opt};
 ghost use Rattle.text.specs.Put.{Written};
 ghost use Rattle.explain_reasons.specs.Reasons.{some_full, some_volume};
 ghost use Rattle.explain_words.specs.Text.{three, range_reasons, first_reasons, unit_reasons, rule_reasons, last_reasons, print_reasons, price_word, tens_reasons, whole_reasons, side_reasons, full_reasons, price_text, volume_word, level_reasons, volume_reasons, volume_text, reasons_text};
 
 use explain_reasons::{FullReasons, PrintReasons, VolumeReasons};
 
-// Three reasons, each where it is given.
-fn write_three(
-    rest: &mut [u8],
-    a: bool,
-    first: &[u8],
-    b: bool,
-    second: &[u8],
-    c: bool,
-    third: &[u8],
-) -> usize
-    requires { length (three a first.now b second.now c third.now) ≤ length rest.old }
-    ensures { Written (three a first.now b second.now c third.now) rest.old rest.new result }
+// The names of those reasons that are given.
+fn write_given(rest: &mut [u8], reasons: &[(bool, &[u8])]) -> usize
+    requires { length (flat_map (λ r. opt r.0 r.1.now) reasons.now) ≤ length rest.old }
+    ensures { Written (flat_map (λ r. opt r.0 r.1.now) reasons.now) rest.old rest.new result }
 {
-    let i = text::write_optional(rest, a, first);
-    let j = i + text::write_optional(&mut rest[i..], b, second);
-    j + text::write_optional(&mut rest[j..], c, third)
+    let mut count = 0;
+    for &(given, name) in reasons {
+        count += text::write_optional(&mut rest[count..], given, name);
+    }
+    count
 }
 
 // ---- why it prints
-
-fn write_range_reasons(rest: &mut [u8], r: PrintReasons) -> usize
-    requires { length (range_reasons r) ≤ length rest.old }
-    ensures { Written (range_reasons r) rest.old rest.new result }
-{
-    write_three(rest, r.every, b":every", r.high, b":high", r.low, b":low")
-}
-
-fn write_first_reasons(rest: &mut [u8], r: PrintReasons) -> usize
-    requires { length (first_reasons r) ≤ length rest.old }
-    ensures { Written (first_reasons r) rest.old rest.new result }
-{
-    write_three(
-        rest,
-        r.price,
-        b":price",
-        r.distance,
-        b":distance",
-        r.first,
-        b":first",
-    )
-}
-
-fn write_unit_reasons(rest: &mut [u8], r: PrintReasons) -> usize
-    requires { length (unit_reasons r) ≤ length rest.old }
-    ensures { Written (unit_reasons r) rest.old rest.new result }
-{
-    write_three(rest, r.six, b":six", r.level, b":level", r.unit, b":unit")
-}
-
-fn write_rule_reasons(rest: &mut [u8], r: PrintReasons) -> usize
-    requires { length (rule_reasons r) ≤ length rest.old }
-    ensures { Written (rule_reasons r) rest.old rest.new result }
-{
-    write_three(
-        rest, r.rule, b":rule", r.differ, b":differ", r.seller, b":seller",
-    )
-}
-
-fn write_last_reasons(rest: &mut [u8], r: PrintReasons) -> usize
-    requires { length (last_reasons r) ≤ length rest.old }
-    ensures { Written (last_reasons r) rest.old rest.new result }
-{
-    write_three(
-        rest,
-        r.last,
-        b":last",
-        r.original_level,
-        b":original-level",
-        r.original_rule,
-        b":original-rule",
-    )
-}
 
 fn write_print_reasons(rest: &mut [u8], r: PrintReasons) -> usize
     requires { length (print_reasons r) ≤ length rest.old }
     ensures { Written (print_reasons r) rest.old rest.new result }
 {
-    let a = write_range_reasons(rest, r);
-    let b = a + write_first_reasons(&mut rest[a..], r);
-    let c = b + write_unit_reasons(&mut rest[b..], r);
-    let d = c + write_rule_reasons(&mut rest[c..], r);
-    d + write_last_reasons(&mut rest[d..], r)
+    write_given(
+        rest,
+        &[
+            (r.every, b":every"),
+            (r.high, b":high"),
+            (r.low, b":low"),
+            (r.price, b":price"),
+            (r.distance, b":distance"),
+            (r.first, b":first"),
+            (r.six, b":six"),
+            (r.level, b":level"),
+            (r.unit, b":unit"),
+            (r.rule, b":rule"),
+            (r.differ, b":differ"),
+            (r.seller, b":seller"),
+            (r.last, b":last"),
+            (r.original_level, b":original-level"),
+            (r.original_rule, b":original-rule"),
+        ],
+    )
 }
 
 // ---- why its price is in full
@@ -116,53 +74,24 @@ fn write_price_word(rest: &mut [u8], r: FullReasons) -> usize
     text::write_bytes(rest, word)
 }
 
-fn write_tens_reasons(rest: &mut [u8], r: FullReasons) -> usize
-    requires { length (tens_reasons r) ≤ length rest.old }
-    ensures { Written (tens_reasons r) rest.old rest.new result }
-{
-    write_three(
-        rest, r.normal, b":normal", r.none, b":none", r.tens, b":tens",
-    )
-}
-
-fn write_whole_reasons(rest: &mut [u8], r: FullReasons) -> usize
-    requires { length (whole_reasons r) ≤ length rest.old }
-    ensures { Written (whole_reasons r) rest.old rest.new result }
-{
-    write_three(
-        rest,
-        r.zero,
-        b":zero",
-        r.unit,
-        b":unit",
-        r.thousand,
-        b":thousand",
-    )
-}
-
-fn write_side_reasons(rest: &mut [u8], r: FullReasons) -> usize
-    requires { length (side_reasons r) ≤ length rest.old }
-    ensures { Written (side_reasons r) rest.old rest.new result }
-{
-    write_three(
-        rest,
-        r.six,
-        b":six",
-        r.whole,
-        b":whole",
-        r.original,
-        b":original",
-    )
-}
-
-#[tactic(auto, unfolding(crate::specs::Text::full_reasons), using(text::proofs::Writing::room, text::proofs::Writing::shorter, text::proofs::Writing::then))]
 fn write_full_reasons(rest: &mut [u8], r: FullReasons) -> usize
     requires { length (full_reasons r) ≤ length rest.old }
     ensures { Written (full_reasons r) rest.old rest.new result }
 {
-    let a = write_tens_reasons(rest, r);
-    let b = a + write_whole_reasons(&mut rest[a..], r);
-    b + write_side_reasons(&mut rest[b..], r)
+    write_given(
+        rest,
+        &[
+            (r.normal, b":normal"),
+            (r.none, b":none"),
+            (r.tens, b":tens"),
+            (r.zero, b":zero"),
+            (r.unit, b":unit"),
+            (r.thousand, b":thousand"),
+            (r.six, b":six"),
+            (r.whole, b":whole"),
+            (r.original, b":original"),
+        ],
+    )
 }
 
 fn write_price(rest: &mut [u8], r: FullReasons) -> usize
@@ -192,22 +121,20 @@ fn write_volume_word(rest: &mut [u8], r: VolumeReasons) -> usize
     text::write_bytes(rest, word)
 }
 
-fn write_level_reasons(rest: &mut [u8], r: VolumeReasons) -> usize
-    requires { length (level_reasons r) ≤ length rest.old }
-    ensures { Written (level_reasons r) rest.old rest.new result }
-{
-    write_three(
-        rest, r.normal, b":normal", r.level, b":level", r.first, b":first",
-    )
-}
-
 fn write_volume_reasons(rest: &mut [u8], r: VolumeReasons) -> usize
     requires { length (volume_reasons r) ≤ length rest.old }
     ensures { Written (volume_reasons r) rest.old rest.new result }
 {
-    let a = write_level_reasons(rest, r);
-    let b = a + text::write_optional(&mut rest[a..], r.six, b":six");
-    b + text::write_optional(&mut rest[b..], r.rule, b":rule")
+    write_given(
+        rest,
+        &[
+            (r.normal, b":normal"),
+            (r.level, b":level"),
+            (r.first, b":first"),
+            (r.six, b":six"),
+            (r.rule, b":rule"),
+        ],
+    )
 }
 
 fn write_volume(rest: &mut [u8], r: VolumeReasons) -> usize

@@ -1,19 +1,12 @@
-use Rattle.text.proofs.Writing.{rooms, then}
-use Rattle.explain_words.specs.Text.{full_reasons}
+use mathlib.Core.List.{append_assoc, append-nil}
+use Rattle.text.proofs.Writing.{fits, named}
+use Rattle.explain_words.specs.Text.{three, full_reasons}
 use Rattle.explain_words.proofs.write_full_reasons.Goals as goal
 
-pub write_tens_reasons-a-requires : goal.write_tens_reasons-a-requires
-unfolding full_reasons
-write_tens_reasons-a-requires c = search rooms depth 24
-
-pub write_whole_reasons-requires : goal.write_whole_reasons-requires
-unfolding full_reasons
-write_whole_reasons-requires c = search rooms depth 24
-
-pub write_side_reasons-requires : goal.write_side_reasons-requires
-unfolding full_reasons
-write_side_reasons-requires c = search rooms depth 24
+pub write_given-requires : goal.write_given-requires
+unfolding full_reasons three
+write_given-requires c = fits (full_reasons c.args.r) _ _ c.requires (simp (append_assoc, append-nil))
 
 pub returns : goal.returns
-unfolding full_reasons
-returns c = search then
+unfolding full_reasons three
+returns c = named (simp (append_assoc, append-nil)) c.write_given.ensures

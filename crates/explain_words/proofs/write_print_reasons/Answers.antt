@@ -1,27 +1,12 @@
-use Rattle.text.proofs.Writing.{rooms, then}
-use Rattle.explain_words.specs.Text.{print_reasons}
+use mathlib.Core.List.{append_assoc, append-nil}
+use Rattle.text.proofs.Writing.{fits, named}
+use Rattle.explain_words.specs.Text.{three, print_reasons}
 use Rattle.explain_words.proofs.write_print_reasons.Goals as goal
 
-pub write_range_reasons-a-requires : goal.write_range_reasons-a-requires
-unfolding print_reasons
-write_range_reasons-a-requires c = search rooms depth 24
-
-pub write_first_reasons-requires : goal.write_first_reasons-requires
-unfolding print_reasons
-write_first_reasons-requires c = search rooms depth 24
-
-pub write_unit_reasons-requires : goal.write_unit_reasons-requires
-unfolding print_reasons
-write_unit_reasons-requires c = search rooms depth 24
-
-pub write_rule_reasons-requires : goal.write_rule_reasons-requires
-unfolding print_reasons
-write_rule_reasons-requires c = search rooms depth 24
-
-pub write_last_reasons-requires : goal.write_last_reasons-requires
-unfolding print_reasons
-write_last_reasons-requires c = search rooms depth 24
+pub write_given-requires : goal.write_given-requires
+unfolding print_reasons three
+write_given-requires c = fits (print_reasons c.args.r) _ _ c.requires (simp (append_assoc, append-nil))
 
 pub returns : goal.returns
-unfolding print_reasons
-returns c = search then
+unfolding print_reasons three
+returns c = named (simp (append_assoc, append-nil)) c.write_given.ensures
