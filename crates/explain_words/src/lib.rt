@@ -94,6 +94,7 @@ fn write_full_reasons(rest: &mut [u8], r: FullReasons) -> usize
     )
 }
 
+#[tactic(auto, unfolding(crate::specs::Text::price_text), using(text::proofs::Writing::rooms))]
 fn write_price(rest: &mut [u8], r: FullReasons) -> usize
     requires { length (price_text r) ≤ length rest.old }
     ensures { Written (price_text r) rest.old rest.new result }
@@ -137,6 +138,7 @@ fn write_volume_reasons(rest: &mut [u8], r: VolumeReasons) -> usize
     )
 }
 
+#[tactic(auto, unfolding(crate::specs::Text::volume_text), using(text::proofs::Writing::rooms))]
 fn write_volume(rest: &mut [u8], r: VolumeReasons) -> usize
     requires { length (volume_text r) ≤ length rest.old }
     ensures { Written (volume_text r) rest.old rest.new result }
@@ -148,6 +150,7 @@ fn write_volume(rest: &mut [u8], r: VolumeReasons) -> usize
 
 // ---- all three
 
+#[tactic(auto, unfolding(crate::specs::Text::reasons_text), using(text::proofs::Writing::rooms))]
 pub fn write_reasons(
     rest: &mut [u8],
     prints: PrintReasons,
