@@ -9,7 +9,7 @@
 //                                                       price=short, volume=off where there is none
 #![tactic(auto)]
 
-ghost use Rattle.std.specs.Prelude.{[], ◌∷◌, ◌≤◌, length};
+ghost use Rattle.std.specs.Prelude.{◌≤◌, length};
 ghost use Rattle.text.specs.Put.{Written};
 ghost use Rattle.explain_text.specs.Lines.{security_text, head_text, refused_text, fate_text, line_of};
 
@@ -17,37 +17,33 @@ use explain_fate::{Explanation, Fate};
 
 // ---- number, kind and security
 
-fn write_kind(rest: &mut [u8], kind: u8) -> usize
-    requires { length (kind ∷ []) ≤ length rest.old }
-    ensures { Written (kind ∷ []) rest.old rest.new result }
-{
-    rest[0] = kind;
-    1
-}
-
+#[tactic(auto, unfolding(crate::specs::Lines::security_text, text::specs::Pick::pick))]
 fn write_security(rest: &mut [u8], n: u64) -> usize
     requires { length (security_text n) ≤ length rest.old }
     ensures { Written (security_text n) rest.old rest.new result }
 {
     if n == 0 {
-        return text::write_bytes(rest, b"     ");
+        text::write_bytes(rest, b"     ")
+    } else {
+        text_right::write_right(rest, 5, n)
     }
-    text_right::write_right(rest, 5, n)
 }
 
+#[tactic(auto, unfolding(crate::specs::Lines::head_text), using(text::proofs::Writing::rooms))]
 fn write_head(rest: &mut [u8], number: u64, kind: u8, security: u64) -> usize
     requires { length (head_text number kind security) ≤ length rest.old }
     ensures { Written (head_text number kind security) rest.old rest.new result }
 {
     let a = text_right::write_right(rest, 10, number);
     let b = a + text::write_bytes(&mut rest[a..], b" ");
-    let c = b + write_kind(&mut rest[b..], kind);
+    let c = b + text::write_bytes(&mut rest[b..], &[kind]);
     let d = c + write_security(&mut rest[c..], security);
     d + text::write_bytes(&mut rest[d..], b" ")
 }
 
 // ---- what becomes of it
 
+#[tactic(auto, unfolding(crate::specs::Lines::refused_text), using(text::proofs::Writing::rooms))]
 fn write_refused(rest: &mut [u8], n: u64) -> usize
     requires { length (refused_text n) ≤ length rest.old }
     ensures { Written (refused_text n) rest.old rest.new result }
@@ -56,15 +52,13 @@ fn write_refused(rest: &mut [u8], n: u64) -> usize
     a + text::write_decimal(&mut rest[a..], n)
 }
 
+#[tactic(auto, unfolding(crate::specs::Lines::fate_text))]
 fn write_fate(rest: &mut [u8], f: Fate) -> usize
     requires { length (fate_text f) ≤ length rest.old }
     ensures { Written (fate_text f) rest.old rest.new result }
 {
     match f {
-        Fate::Refused(r) => {
-            let n = engine::number_of(r);
-            write_refused(rest, n)
-        }
+        Fate::Refused(r) => write_refused(rest, u64::from(r)),
         Fate::Accepted => text::write_bytes(rest, b"accepted"),
         Fate::Announced => text::write_bytes(rest, b"announced"),
         Fate::LeftOff => text::write_bytes(rest, b"left off"),
@@ -74,12 +68,12 @@ fn write_fate(rest: &mut [u8], f: Fate) -> usize
 
 // ---- the line
 
+#[tactic(auto, unfolding(crate::specs::Lines::line_of), using(text::proofs::Writing::rooms))]
 pub fn write_explanation(rest: &mut [u8], number: u64, e: Explanation) -> usize
     requires { length (line_of number e) ≤ length rest.old }
     ensures { Written (line_of number e) rest.old rest.new result }
 {
-    let fate = e.fate;
     let a = write_head(rest, number, e.kind, e.security);
-    let b = a + write_fate(&mut rest[a..], fate);
+    let b = a + write_fate(&mut rest[a..], e.fate);
     b + text::write_bytes(&mut rest[b..], b"\n")
 }
