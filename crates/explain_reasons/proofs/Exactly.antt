@@ -1,6 +1,6 @@
 -- A reason is given exactly where the rules print the line, its price in full, its volume: nothing that prints has no reason, and nothing that is left off has one. Assumes nothing.
 use Prim.Native.Nat.{ℕ}
-use mathlib.Core.Path.{◌≡◌, refl, sym, ◌∙◌}
+use mathlib.Core.Path.{◌≡◌, refl, sym, ap, ◌∙◌}
 use mathlib.Core.Bool.{Bool, true, false, ◌&&◌, ◌||◌, not}
 use lib.Dec.{leb, eqb}
 use Rattle.text.specs.Pick.{pick}
@@ -17,6 +17,8 @@ use Rattle.rules.specs.declared.Side.{Side}
 use Rattle.rules.specs.declared.Settings.{Settings}
 use Rattle.rules.specs.declared.Security.{Security}
 use Rattle.decide_levels.specs.Parts.{prints_rpo, prints_mpv, last_unlike, last_far}
+use Rattle.explain_reasons.specs.declared.FullReasons.{FullReasons}
+use Rattle.explain_reasons.specs.declared.VolumeReasons.{VolumeReasons}
 use Rattle.explain_reasons.specs.Reasons.{in_mode, always, in_normal, shown_in_normal, tens_left, rpo_trade, mpv_trade, trade_prints, dvd_correction, later_correction, correction_prints, full_by, trade_full_by, correction_full_by, cancel_full_by, trade_shows_by, correction_shows_by, cancel_shows_by, some_print, some_full, some_volume}
 
 -- either of two, each asked with the same condition
@@ -24,6 +26,17 @@ both_asked : (f a b c : Bool) → ((f && a) || ((f && b) || c)) ≡ ((f && (a ||
 both_asked false a b c = refl
 both_asked true true b c = refl
 both_asked true false b c = refl
+
+-- in normal there is a reason, otherwise one of those asked
+full_or : (n : Bool) (r : FullReasons) → some_full (pick n in_normal r) ≡ (n || some_full r)
+unfolding pick some_full in_normal
+full_or true r = refl
+full_or false r = refl
+
+shown_or : (n : Bool) (r : VolumeReasons) → some_volume (pick n shown_in_normal r) ≡ (n || some_volume r)
+unfolding pick some_volume shown_in_normal
+shown_or true r = refl
+shown_or false r = refl
 
 -- ---- trades
 
@@ -55,20 +68,16 @@ full_exactly true tens zero unit thousand six = refl
 full_exactly false tens zero unit thousand six = rw (or_false six)
 
 pub trade_in_full : (st : Settings) (s : Security) (market : ℕ) (x : Side) → some_full (trade_full_by st s market x) ≡ trade_full st s market x
-unfolding trade_full_by trade_full some_full full_price full_at full_by tens_left pick in_normal
-trade_in_full st s market x = go (is_normal st.mode)
-  where
-    go : (n : Bool) → some_full (pick n in_normal (full_by s market (whole_part x.price))) ≡ (n || full_price s market x)
-    go true = refl
-    go false = full_exactly (eqb s.printed.price 0) (not (eqb (tens (whole_part x.price)) (tens (dollars s.printed.price)))) (ends_in_zero (whole_part x.price)) (eqb s.issue.unit 1) (leb 1000 (whole_part x.price)) (rules.six s market)
+unfolding trade_full_by trade_full some_full full_price full_at full_by tens_left
+trade_in_full st s market x =
+    let whole = whole_part x.price in
+    full_or (is_normal st.mode) (full_by s market whole)
+    ∙ ap (λ (b : Bool). is_normal st.mode || b)
+    (full_exactly (eqb s.printed.price 0) (not (eqb (tens whole) (tens (dollars s.printed.price)))) (ends_in_zero whole) (eqb s.issue.unit 1) (leb 1000 whole) (rules.six s market))
 
 pub trade_shown : (st : Settings) (s : Security) (market : ℕ) (x : Side) → some_volume (trade_shows_by st s market x) ≡ trade_shows st s market x
-unfolding trade_shows_by trade_shows some_volume shows_volume pick shown_in_normal
-trade_shown st s market x = go (is_normal st.mode)
-  where
-    go : (n : Bool) → some_volume (pick n shown_in_normal (record { normal = false; level = at_level st x.volume; first = first_qualifying s.counts x.letters; six = rules.six s market; rule = has_rule x.letters })) ≡ (n || shows_volume st s market x)
-    go true = refl
-    go false = refl
+unfolding trade_shows_by trade_shows some_volume shows_volume
+trade_shown st s market x = shown_or (is_normal st.mode) _
 
 -- ---- corrections
 
@@ -127,38 +136,23 @@ corrected_full false false true original = simp or_true
 corrected_full false false false original = sym (or_false original)
 
 pub correction_in_full : (st : Settings) (s : Security) (x y : Side) → some_full (correction_full_by st s x y) ≡ correction_full st s x y
-unfolding correction_full_by correction_full some_full full_prices pick in_normal
-correction_in_full st s x y = go (is_normal st.mode)
-  where
-    tens_differ : Bool
-    tens_differ = not (is_mpv st.mode) && not (eqb (tens (whole_part x.price)) (tens (whole_part y.price)))
-
-    go : (n : Bool) → some_full (pick n in_normal (record { normal = false; none = false; tens = tens_differ; zero = false; unit = eqb s.issue.unit 1; thousand = false; six = false; whole = whole_in_full y; original = whole_in_full x })) ≡ (n || full_prices st s x y)
-    go true = refl
-    go false = corrected_full tens_differ (eqb s.issue.unit 1) (whole_in_full y) (whole_in_full x)
+unfolding correction_full_by correction_full some_full full_prices
+correction_in_full st s x y =
+    full_or (is_normal st.mode) _
+    ∙ ap (λ (b : Bool). is_normal st.mode || b)
+    (corrected_full (not (is_mpv st.mode) && not (eqb (tens (whole_part x.price)) (tens (whole_part y.price)))) (eqb s.issue.unit 1) (whole_in_full y) (whole_in_full x))
 
 pub correction_shown : (st : Settings) (x y : Side) → some_volume (correction_shows_by st x y) ≡ correction_shows st x y
-unfolding correction_shows_by correction_shows some_volume shows_volumes pick shown_in_normal
-correction_shown st x y = go (is_normal st.mode)
-  where
-    go : (n : Bool) → some_volume (pick n shown_in_normal (record { normal = false; level = at_level st y.volume; first = false; six = false; rule = has_rule x.letters || has_rule y.letters })) ≡ (n || shows_volumes st x y)
-    go true = refl
-    go false = refl
+unfolding correction_shows_by correction_shows some_volume shows_volumes
+correction_shown st x y = shown_or (is_normal st.mode) _
 
 -- ---- cancels and errors, which always print
 
 pub cancel_in_full : (st : Settings) (s : Security) (x : Side) → some_full (cancel_full_by st s x) ≡ cancel_full st s x
-unfolding cancel_full_by cancel_full some_full pick in_normal
-cancel_in_full st s x = go (is_normal st.mode)
-  where
-    go : (n : Bool) → some_full (pick n in_normal (record { normal = false; none = false; tens = false; zero = false; unit = eqb s.issue.unit 1; thousand = false; six = false; whole = whole_in_full x; original = false })) ≡ (n || (eqb s.issue.unit 1 || whole_in_full x))
-    go true = refl
-    go false = rw (or_false (whole_in_full x))
+unfolding cancel_full_by cancel_full some_full
+cancel_in_full st s x =
+    full_or (is_normal st.mode) _ ∙ ap (λ (b : Bool). is_normal st.mode || (eqb s.issue.unit 1 || b)) (or_false (whole_in_full x))
 
 pub cancel_shown : (st : Settings) (x : Side) → some_volume (cancel_shows_by st x) ≡ cancel_shows st x
-unfolding cancel_shows_by cancel_shows some_volume pick shown_in_normal
-cancel_shown st x = go (is_normal st.mode)
-  where
-    go : (n : Bool) → some_volume (pick n shown_in_normal (record { normal = false; level = at_level st x.volume; first = false; six = false; rule = has_rule x.letters })) ≡ (n || (at_level st x.volume || has_rule x.letters))
-    go true = refl
-    go false = refl
+unfolding cancel_shows_by cancel_shows some_volume
+cancel_shown st x = shown_or (is_normal st.mode) _
