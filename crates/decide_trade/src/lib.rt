@@ -15,6 +15,8 @@ use rules::{Counts, Issue, Mode, PriceForm, Printed, Range, Security, Settings, 
 
 // ---- what prints
 
+// Kept: a trade's values stay parameters, as call_plan and call_trade pass them and the definitions of specs/Value take them.
+
 // The first trade qualifying for last.
 #[tactic(auto, unfolding(crate::specs::Value::first_by))]
 fn is_first(c: Counts, lasts: bool) -> bool
