@@ -5,10 +5,10 @@ use mathlib.Core.Path.{◌≡◌, refl, sym, ap, ◌∙◌}
 use mathlib.Core.Bool.{Bool, true, false, not}
 use mathlib.Core.List.{List, [], ◌∷◌, ◌++◌, append_assoc}
 use lib.Dec.{eqb}
-use lib.IntN.{ℤ, pos}
 use lib.ListN.{length, take, drop, replicate, length-append, length-take, length-drop}
 use lib.Seq.{take_at, drop_at, length-take-le}
 use borrow.Author.Tests.{eqb-true}
+use Rattle.std.specs.Prelude.{Ok}
 use Rattle.text.specs.Pick.{pick}
 use Rattle.text.specs.Put.{put}
 use Rattle.text.proofs.Booleans.{false_true}
@@ -20,7 +20,7 @@ use Rattle.line_owed.specs.Reached.{Reached}
 use Rattle.feed_blocks.specs.Lines.{cut}
 use Rattle.feed_gather.specs.Gather.{Program, Progress, started, carried, line_taken, room_left, lines_taken, block_taken}
 use Rattle.feed_gather.proofs.Blocks.{taken_on, taken_off, taken_none, room_out, room_err, room_number}
-use Rattle.feed_input.specs.Place.{Within, held, taken_in, gone_on, block_on}
+use Rattle.feed_input.specs.Place.{Answer, Within, held, taken_in, gone_on, block_on}
 use Rattle.feed_input.specs.Answers.{Answers}
 use Rattle.feed_input.specs.Answers.Answers.{unasked, came, fails}
 use Rattle.feed_input.specs.declared.Place.{Place}
@@ -78,7 +78,7 @@ module _ {g : Program} {out err : Text} (tells : Tells g out err) (fits : Fits g
 -- ---- a turn, for each read that fits
 
 module _ {g : Program} {out err : Text} (tells : Tells g out err) (fits : Fits g) (lent_out lent_err : List ℕ) (wide : g.out_most ≤ length lent_out) (deep : g.err_most ≤ length lent_err)
-    (s : Standing) (table names block : List ℕ) (day : Day) (y : session.Ready s table names block day) (bytes : List ℕ) (z : ℤ) (read : List ℕ) (answers : Answers s.place block bytes z read) where
+    (s : Standing) (table names block : List ℕ) (day : Day) (y : session.Ready s table names block day) (bytes : List ℕ) (z : Answer) (read : List ℕ) (answers : Answers s.place block bytes z read) where
   abbrev q : Progress
   q = progress_in g s z table names read (length lent_out) (length lent_err)
 
@@ -123,7 +123,7 @@ module _ {g : Program} {out err : Text} (tells : Tells g out err) (fits : Fits g
 
 -- ---- reads that fit
 
-reads : (p : Place) (block bytes : List ℕ) → p.asks ≡ true → Within p (length block) → p.have + length bytes ≤ length block → Answers p block bytes (pos (length bytes)) (take p.have block ++ (bytes ++ drop (p.have + length bytes) block))
+reads : (p : Place) (block bytes : List ℕ) → p.asks ≡ true → Within p (length block) → p.have + length bytes ≤ length block → Answers p block bytes (Ok (length bytes)) (take p.have block ++ (bytes ++ drop (p.have + length bytes) block))
 reads p block bytes a i l =
     let h : length (take p.have block) ≡ p.have = length-take-le p.have block i.to_end in
     came {block' = take p.have block ++ (bytes ++ drop (p.have + length bytes) block)} a
@@ -175,7 +175,7 @@ ends_at rest r (how.last a b c d k l) o f alone e = absurd (false_true o)
 ends_at rest r (how.fills a b c d k l) o f alone e = absurd (false_true o)
 ends_at rest r (how.waits a b c d k l) o f alone e = absurd (false_true o)
 
-kept_size : {p : Place} {b bytes b' : List ℕ} {z : ℤ} → Answers p b bytes z b' → p.asks ≡ true → length b' ≡ length b
+kept_size : {p : Place} {b bytes b' : List ℕ} {z : Answer} → Answers p b bytes z b' → p.asks ≡ true → length b' ≡ length b
 kept_size (unasked z h) a = refl
 kept_size (came h k l c) a = k.size
 kept_size (fails c h k) a = k.size
@@ -190,7 +190,7 @@ pub record Whole (s : Standing) (table names block input : List ℕ) (day : Day)
 
 module _ {g : Program} {out err : Text} (tells : Tells g out err) (fits : Fits g) (lent_out lent_err : List ℕ) (wide : g.out_most ≤ length lent_out) (deep : g.err_most ≤ length lent_err) where
   -- a turn that reads `bytes` of `bytes ++ rest`
-  module _ (s : Standing) (table names block bytes rest : List ℕ) (day : Day) (y : Whole s table names block (bytes ++ rest) day) (z : ℤ) (read : List ℕ) (answers : Answers s.place block bytes z read)
+  module _ (s : Standing) (table names block bytes rest : List ℕ) (day : Day) (y : Whole s table names block (bytes ++ rest) day) (z : Answer) (read : List ℕ) (answers : Answers s.place block bytes z read)
       (alone : (place_in s z read).ended ≡ true → rest ≡ []) (fine : (place_in s z read).failed ≡ false) where
     abbrev r : Stepped
     r = answer tells fits lent_out lent_err wide deep s table names block day y.ready bytes z read answers
@@ -275,8 +275,8 @@ module _ {g : Program} {out err : Text} (tells : Tells g out err) (fits : Fits g
     quiet : (input : List ℕ) → Whole s table names block input day → s.place.asks ≡ false
         → ((s' : Standing) (table' names' block'' input' : List ℕ) (day' : Day) → Whole s' table' names' block'' input' day' → turns.left s' block'' input' < turns.left s block input → Has g s' table' names' block'' input') → Has g s table names block input
     quiet input y a on =
-        let e = in_quiet s.place (length block) y.ready.within (pos 0) a in
-        step_on s table names block [] input day y (pos 0) block (unasked (pos 0) a) (λ z. y.no_more (sym (ap (λ (x : Place). x.ended) e) ∙ z)) (ap (λ (x : Place). x.failed) e ∙ y.ready.came a) on
+        let e = in_quiet s.place (length block) y.ready.within (Ok 0) a in
+        step_on s table names block [] input day y (Ok 0) block (unasked (Ok 0) a) (λ z. y.no_more (sym (ap (λ (x : Place). x.ended) e) ∙ z)) (ap (λ (x : Place). x.failed) e ∙ y.ready.came a) on
 
     -- a read of at most a byte
     asked : (bytes rest : List ℕ) → length bytes ≤ 1 → (length bytes ≡ 0 → rest ≡ []) → Whole s table names block (bytes ++ rest) day → s.place.asks ≡ true
@@ -286,8 +286,8 @@ module _ {g : Program} {out err : Text} (tells : Tells g out err) (fits : Fits g
         let ans = reads s.place block bytes a y.ready.within l in
         let read : List ℕ = take s.place.have block ++ (bytes ++ drop (s.place.have + length bytes) block) in
         let size : length read ≡ length block = kept_size ans a in
-        let e : place_in s (pos (length bytes)) read ≡ record { at = s.place.at; have = s.place.have + length bytes; asks = false; ended = eqb (length bytes) 0; failed = false } = ap (taken_in s.place (pos (length bytes))) size ∙ in_came s.place (length block) y.ready.within (length bytes) a l in
-        step_on s table names block bytes rest day y (pos (length bytes)) read ans (λ z. end (eqb-true (length bytes) 0 (sym (ap (λ (x : Place). x.ended) e) ∙ z))) (ap (λ (x : Place). x.failed) e) on
+        let e : place_in s (Ok (length bytes)) read ≡ record { at = s.place.at; have = s.place.have + length bytes; asks = false; ended = eqb (length bytes) 0; failed = false } = ap (taken_in s.place (Ok (length bytes))) size ∙ in_came s.place (length block) y.ready.within (length bytes) a l in
+        step_on s table names block bytes rest day y (Ok (length bytes)) read ans (λ z. end (eqb-true (length bytes) 0 (sym (ap (λ (x : Place). x.ended) e) ∙ z))) (ap (λ (x : Place). x.failed) e) on
 
   one_turn : (s : Standing) (table names block input : List ℕ) (day : Day) → Whole s table names block input day
       → ((s' : Standing) (table' names' block'' input' : List ℕ) (day' : Day) → Whole s' table' names' block'' input' day' → turns.left s' block'' input' < turns.left s block input → Has g s' table' names' block'' input') → Has g s table names block input

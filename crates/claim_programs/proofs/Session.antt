@@ -4,7 +4,6 @@ use native.Mathlib.Omega.{arith}
 use mathlib.Core.Path.{◌≡◌, refl, sym, ap, ◌∙◌}
 use mathlib.Core.Bool.{Bool, true, false, not}
 use mathlib.Core.List.{List, [], ◌∷◌, ◌++◌, append_assoc, append-nil}
-use lib.IntN.{ℤ}
 use lib.ListN.{length, take, drop, replicate}
 use lib.Seq.{drop-length, take_at}
 use Rattle.text.specs.Put.{put, Written}
@@ -17,7 +16,7 @@ use Rattle.call_table.proofs.Held.{held_cleared}
 use Rattle.line_owed.proofs.Reached.{kept_fresh}
 use Rattle.feed_blocks.specs.Lines.{line_length, lines_by}
 use Rattle.feed_gather.specs.Gather.{Program, Progress, started}
-use Rattle.feed_input.specs.Place.{Within, held, taken_in, gone_on}
+use Rattle.feed_input.specs.Place.{Answer, Within, held, taken_in, gone_on}
 use Rattle.feed_input.specs.Answers.{Answers}
 use Rattle.feed_input.specs.Answers.Answers.{unasked, came, fails}
 use Rattle.feed_input.specs.declared.Place.{Place}
@@ -175,7 +174,7 @@ pub record Ready (s : Standing) (table names block : List ℕ) (day : Day) : Typ
   pub plain : s.place.asks ≡ true → length (held s.place block) ≤ line_length (held s.place block)
   pub came : s.place.asks ≡ false → s.place.failed ≡ false
 
-pub quiet_none : {q : Place} {b bytes b' : List ℕ} {y : ℤ} → Answers q b bytes y b' → q.asks ≡ false → bytes ≡ []
+pub quiet_none : {q : Place} {b bytes b' : List ℕ} {y : Answer} → Answers q b bytes y b' → q.asks ≡ false → bytes ≡ []
 quiet_none (unasked y h) n = refl
 quiet_none (came h k l c) n = two h n
 quiet_none (fails c h k) n = refl
@@ -198,7 +197,7 @@ ended_whole (last t o) i a e f =
     (quiet_none t.answers a, ap not (next_failed t ∙ pf))
 
 -- a failed read brings nothing
-broke : {p : Place} {b bytes b' : List ℕ} {z : ℤ} → Within p (length b) → Answers p b bytes z b' → p.asks ≡ true → (taken_in p z (length b)).failed ≡ true → bytes ≡ []
+broke : {p : Place} {b bytes b' : List ℕ} {z : Answer} → Within p (length b) → Answers p b bytes z b' → p.asks ≡ true → (taken_in p z (length b)).failed ≡ true → bytes ≡ []
 broke i (unasked z h) a f = two a h
 broke {p} {b} i (came {bytes} h k l c) a f = two f (ap (λ (x : Place). x.failed) (in_came p (length b) i (length bytes) h l))
 broke i (fails c h k) a f = refl

@@ -9,6 +9,7 @@ ghost use Rattle.explain_block.specs.Explains.{explain_program};
 
 use call_table::{Names, Table};
 use feed_gather::Fed;
+use feed_input::ReadFailed;
 use feed_step::{Standing, Stepped, Way};
 use rules::Settings;
 
@@ -52,11 +53,11 @@ fn carry_out(
     }
 }
 
-// One step: the answer of a read as the system gave it, where one was asked for; then the lines that the block holds, as many as
+// One step: the answer of a read, where one was asked for; then the lines that the block holds, as many as
 // there is room for, or one that is the last, or longer than the block. What is to be written stands in the lent text.
 pub fn step(
     s: Standing,
-    answer: isize,
+    answer: Result<usize, ReadFailed>,
     table: &mut Table,
     names: &mut Names,
     block: &mut [u8],

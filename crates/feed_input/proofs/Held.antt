@@ -5,18 +5,19 @@ use mathlib.Core.Path.{◌≡◌, refl, sym, ap, ◌∙◌}
 use mathlib.Core.Bool.{Bool, true, false}
 use mathlib.Core.List.{List, [], ◌∷◌, ◌++◌, append-nil}
 use lib.Dec.{eqb}
-use lib.IntN.{ℤ, pos, negsuc}
 use lib.ListN.{length, take, drop, length-take, length-drop}
 use lib.Seq.{take_at, take-add, drop-drop}
 use borrow.Author.Tests.{eqb-true, eqb-false}
+use Rattle.std.specs.Prelude.{Result, Ok, Err}
 use Rattle.text.specs.Pick.{pick}
 use Rattle.text.specs.Put.{put}
 use Rattle.text.proofs.Booleans.{false_true}
 use Rattle.text.proofs.Writing.{length_put}
-use Rattle.feed_input.specs.Place.{Within, held_from, held, came_of, is_failure, taken_in, gone_on, block_on}
+use Rattle.feed_input.specs.Place.{Answer, Within, held_from, held, came_of, is_failure, taken_in, gone_on, block_on}
 use Rattle.feed_input.specs.Answers.{Kept, Answers}
 use Rattle.feed_input.specs.Answers.Answers.{unasked, came, fails}
 use Rattle.feed_input.specs.declared.Place.{Place}
+use Rattle.feed_input.specs.declared.ReadFailed.{ReadFailed}
 use Rattle.feed_input.proofs.Places.{came_most, drop_take}
 
 pub length_held : (p : Place) (block : List ℕ) → Within p (length block) → length (held p block) ≡ p.have - p.at
@@ -36,17 +37,17 @@ module _ (p : Place) (size : ℕ) (w : Within p size) where
   at_is : min p.at (min p.have size) ≡ p.at
   at_is = omega (arith, w.to_end, w.from_to)
 
-  pub in_quiet : (z : ℤ) → p.asks ≡ false → taken_in p z size ≡ record { at = p.at; have = p.have; asks = false; ended = p.ended; failed = p.failed }
+  pub in_quiet : (z : Answer) → p.asks ≡ false → taken_in p z size ≡ record { at = p.at; have = p.have; asks = false; ended = p.ended; failed = p.failed }
   unfolding taken_in pick
   in_quiet z e = rw (e, at_is, have_is)
 
-  pub in_came : (n : ℕ) → p.asks ≡ true → p.have + n ≤ size → taken_in p (pos n) size ≡ record { at = p.at; have = p.have + n; asks = false; ended = eqb n 0; failed = false }
+  pub in_came : (n : ℕ) → p.asks ≡ true → p.have + n ≤ size → taken_in p (Ok n) size ≡ record { at = p.at; have = p.have + n; asks = false; ended = eqb n 0; failed = false }
   unfolding taken_in pick came_of is_failure
   in_came n e l = let m : min n (size - p.have) ≡ n = omega arith in rw (e, at_is, have_is, m)
 
-  pub in_failed : (code : ℕ) → p.asks ≡ true → taken_in p (negsuc code) size ≡ record { at = p.at; have = p.have; asks = false; ended = true; failed = true }
+  pub in_failed : (failure : ReadFailed) → p.asks ≡ true → taken_in p (Err failure) size ≡ record { at = p.at; have = p.have; asks = false; ended = true; failed = true }
   unfolding taken_in pick came_of is_failure
-  in_failed code e = let z : p.have + 0 ≡ p.have = omega arith in rw (e, at_is, have_is, z)
+  in_failed failure e = let z : p.have + 0 ≡ p.have = omega arith in rw (e, at_is, have_is, z)
 
 -- what a read leaves: the bytes that came stand behind those that were held; where it is not the end, one came at least
 pub record After (p : Place) (block bytes block' : List ℕ) (q : Place) : Type 0 where
@@ -61,7 +62,7 @@ empty : (l : List ℕ) → length l ≡ 0 → l ≡ []
 empty [] h = refl
 empty (x ∷ l) h = absurd (omega arith)
 
-pub after_read : {p : Place} {block bytes block' : List ℕ} {z : ℤ} → Within p (length block) → Answers p block bytes z block' → After p block bytes block' (taken_in p z (length block))
+pub after_read : {p : Place} {block bytes block' : List ℕ} {z : Answer} → Within p (length block) → Answers p block bytes z block' → After p block bytes block' (taken_in p z (length block))
 after_read {p} {block} w (unasked z e) =
     rw (in_quiet p (length block) w z e)
     (record {
@@ -140,7 +141,7 @@ failed_on true p n = refl
 failed_on false p n = refl
 
 -- whatever the place was
-pub in_within : (p : Place) (z : ℤ) (size : ℕ) → Within (taken_in p z size) size
+pub in_within : (p : Place) (z : Answer) (size : ℕ) → Within (taken_in p z size) size
 unfolding taken_in pick
 in_within p z size = go p.asks refl
   where

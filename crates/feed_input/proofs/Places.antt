@@ -1,46 +1,23 @@
 -- Places in a block. Assumes nothing.
-use Prim.Native.Nat.{ℕ, zero, suc, ◌+◌, ◌-◌, ◌^◌, ◌≤◌, ◌<◌, min}
+use Prim.Native.Nat.{ℕ, zero, suc, ◌-◌, ◌≤◌}
 use native.Mathlib.Omega.{arith}
 use mathlib.Core.Path.{◌≡◌, sym, ap, ◌∙◌}
-use mathlib.Core.Bool.{Bool, true, false, not}
+use mathlib.Core.Bool.{true}
 use mathlib.Core.List.{List, [], ◌∷◌, ◌++◌, append_assoc}
-use lib.Dec.{eqb}
-use lib.IntN.{ℤ, pos, negsuc}
 use lib.ListN.{length, take, drop, length-take, length-drop, take-append-drop}
 use lib.Seq.{take-nil, drop-nil, drop-append-le}
-use mir.Val.{to_z, of_z, Fits, SFits}
-use mir.ValLaws.{to_z-of_z}
-use mir.Syntax.{w64}
-use borrow.Author.Tests.{not-true, not-false}
-use Rattle.text.specs.Pick.{pick}
+use Rattle.std.specs.Prelude.{Result, Ok, Err}
 use Rattle.text.specs.Put.{put, Written}
-use Rattle.feed_input.specs.Place.{held_from, came_of, is_failure, taken_in, used_up, front_from, gone_on, block_on, GoesOn}
+use Rattle.feed_input.specs.Place.{Answer, held_from, came_of, front_from}
 use Rattle.feed_input.specs.declared.Place.{Place}
+use Rattle.feed_input.specs.declared.ReadFailed.{ReadFailed}
 
 -- ---- a read's answer
 
-pub came_most : (z : ℤ) (room : ℕ) → came_of z room ≤ room
+pub came_most : (z : Answer) (room : ℕ) → came_of z room ≤ room
 unfolding came_of
-came_most (pos n) room = omega arith
-came_most (negsuc n) room = omega arith
-
-module _ (p : Place) (z : ℤ) (size have at : ℕ) (h : have ≡ min p.have size) (a : at ≡ min p.at have) where
-  pub not_asked : not p.asks ≡ true → record { at = at; have = have; asks = false; ended = p.ended; failed = p.failed } ≡ taken_in p z size
-  unfolding taken_in pick
-  not_asked e = rw (not-true p.asks e, a, h)
-
-  module _ (n : ℕ) (c : n ≡ came_of (to_z w64 (of_z w64 z)) (size - have)) where
-    pub came_fits : size < 2 ^ 64 → Fits w64 (have + n)
-    came_fits l = record { fits = omega (arith, came_most (to_z w64 (of_z w64 z)) (size - have)) }
-
-    -- an answer is read back from its bits
-    pub was_asked : (b : Bool) → SFits w64 z → b ≡ is_failure (to_z w64 (of_z w64 z)) → not p.asks ≡ false → record { at = at; have = have + n; asks = false; ended = eqb n 0; failed = b } ≡ taken_in p z size
-    unfolding taken_in pick
-    was_asked b s f e =
-        let back = to_z-of_z w64 z s in
-        let came : n ≡ came_of z (size - have) = rw back at c in
-        let fails : b ≡ is_failure z = rw back at f in
-        rw (not-false p.asks e, fails, came, a, h)
+came_most (Ok n) room = omega arith
+came_most (Err f) room = omega arith
 
 -- ---- what is held
 
@@ -70,13 +47,3 @@ module _ (p : Place) (at : ℕ) (block ys : List ℕ) (n : ℕ) (w : Written (dr
       ap (λ (x : List ℕ). x ++ drop p.have block) e
       ∙ (append_assoc t (drop (length t) (take p.have block)) (drop p.have block)
       ∙ ap (λ (x : List ℕ). t ++ x) (sym (drop-append-le (length t) (take p.have block) (drop p.have block) l) ∙ ap (drop (length t)) (take-append-drop p.have block)))
-
--- as the code has it
-module _ (p : Place) (n : ℕ) (reads : Bool) (block : List ℕ) where
-  pub goes_front : reads ≡ true → (r : Place) (block' : List ℕ) → r ≡ front_from p (p.at + n) → block' ≡ put (held_from p (p.at + n) block) block → GoesOn reads p n block block' r
-  unfolding gone_on block_on pick
-  goes_front e r block' a b = record { place_is = rw e a; block_is = rw e b }
-
-  pub goes_still : reads ≡ false → GoesOn reads p n block block (used_up p n)
-  unfolding gone_on block_on pick
-  goes_still e = record { place_is = rw e; block_is = rw e }

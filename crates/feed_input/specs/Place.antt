@@ -1,8 +1,9 @@
 -- Where a program stands in its input, which is read in blocks: what is held of it, what a read answered, what is used. Assumes nothing.
-use Rattle.std.specs.Prelude.{ℕ, ◌+◌, ◌-◌, ◌≤◌, min, ◌≡◌, Bool, true, false, List, eqb, ℤ, pos, negsuc, take, drop}
+use Rattle.std.specs.Prelude.{ℕ, ◌+◌, ◌-◌, ◌≤◌, min, ◌≡◌, Bool, true, false, List, eqb, Result, Ok, Err, take, drop}
 use Rattle.text.specs.Pick.{pick}
 use Rattle.text.specs.Put.{put}
 use Rattle.feed_input.specs.declared.Place.{Place}
+use Rattle.feed_input.specs.declared.ReadFailed.{ReadFailed}
 
 -- before the first read: nothing is held, and a read comes next
 abbrev pub opening : Place
@@ -20,17 +21,20 @@ held_from p at block = take (p.have - at) (drop at block)
 abbrev pub held : Place → List ℕ → List ℕ
 held p block = held_from p p.at block
 
--- ---- a read's answer
+-- ---- a read's answer: how many bytes came, or it failed
+
+abbrev pub Answer : Type 0
+Answer = Result ℕ ReadFailed
 
 -- how many bytes came, where there was room for so many: none where the read failed
-unfoldable pub came_of : ℤ → ℕ → ℕ
-came_of (pos n) room = min n room
-came_of (negsuc n) room = 0
+unfoldable pub came_of : Answer → ℕ → ℕ
+came_of (Ok n) room = min n room
+came_of (Err f) room = 0
 
 -- the read failed
-unfoldable pub is_failure : ℤ → Bool
-is_failure (pos n) = false
-is_failure (negsuc n) = true
+unfoldable pub is_failure : Answer → Bool
+is_failure (Ok n) = false
+is_failure (Err f) = true
 
 -- what is held, within a block of `size` bytes
 abbrev pub have_in : Place → ℕ → ℕ
@@ -39,8 +43,8 @@ have_in p size = min p.have size
 abbrev pub at_in : Place → ℕ → ℕ
 at_in p size = min p.at (have_in p size)
 
--- the answer of a read, as the system gave it, where one was asked for: the bytes that came are held; none came, and the input is at its end; or it failed, and nothing more comes either. Where none was asked for, the answer does not count
-unfoldable pub taken_in : Place → ℤ → ℕ → Place
+-- the answer of a read, where one was asked for: the bytes that came are held; none came, and the input is at its end; or it failed, and nothing more comes either. Where none was asked for, the answer does not count
+unfoldable pub taken_in : Place → Answer → ℕ → Place
 taken_in p answer size =
     pick p.asks
     (record {

@@ -1,13 +1,13 @@
 // Where a program stands in its input, which it reads in blocks. No input or output here: a program reads behind what is held
-// and hands on the answer as the system gave it.
+// and hands on the answer.
 //
-//     take_in   the answer of a read: bytes came, the input is at its end, or the read failed
+//     take_in   the answer of a read: bytes came, none came and the input is at its end, or the read failed
 //     go_on     so many bytes are used; where a read comes next, what is left of them goes to the block's front
 #![tactic(auto)]
 
-ghost use Rattle.std.specs.Prelude.{◌≡◌, ◌+◌, ◌≤◌, min, length};
+ghost use Rattle.std.specs.Prelude.{◌≡◌, ◌+◌, ◌≤◌, length};
 ghost use Rattle.text.specs.Put.{put};
-ghost use Rattle.feed_input.specs.Place.{opening, came_of, is_failure, taken_in, held_from, front_from, GoesOn};
+ghost use Rattle.feed_input.specs.Place.{opening, came_of, taken_in, held_from, front_from, GoesOn};
 
 // The bytes of the block from `at` to `have` are held: read, and not yet used. `asks`: a read comes next. `ended`: nothing more
 // comes, since the input is at its end or, `failed`, since a read failed.
@@ -19,6 +19,10 @@ pub struct Place {
     pub ended: bool,
     pub failed: bool,
 }
+
+// A read that failed.
+#[derive(Clone, Copy, Debug, PartialEq, Eq, Drop)]
+pub struct ReadFailed;
 
 pub fn opened() -> Place
     ensures { result ≡ opening }
@@ -32,50 +36,31 @@ pub fn opened() -> Place
     }
 }
 
-fn least(a: usize, b: usize) -> usize
-    ensures { result ≡ min a b }
-{
-    if a < b { a } else { b }
-}
-
 // How many bytes came, where there was room for so many.
-fn came(answer: isize, room: usize) -> usize
+#[tactic(auto, unfolding(crate::specs::Place::came_of))]
+fn came(answer: Result<usize, ReadFailed>, room: usize) -> usize
     ensures { result ≡ came_of answer room }
 {
-    if answer < 0 {
-        return 0;
-    }
-    least(answer as usize, room)
-}
-
-fn is_failure(answer: isize) -> bool
-    ensures { result ≡ is_failure answer }
-{
-    answer < 0
+    answer.unwrap_or(0).min(room)
 }
 
 // The answer of a read into the block behind what is held, where one was asked for. What is held is taken within the block.
-pub fn take_in(p: Place, answer: isize, size: usize) -> Place
+#[tactic(auto, unfolding(crate::specs::Place::taken_in, crate::specs::Place::is_failure, text::specs::Pick::pick), using(crate::proofs::Places::came_most))]
+pub fn take_in(p: Place, answer: Result<usize, ReadFailed>, size: usize) -> Place
     ensures { result ≡ taken_in p answer size }
 {
-    let have = least(p.have, size);
-    let at = least(p.at, have);
+    let have = p.have.min(size);
+    let at = p.at.min(have);
     if !p.asks {
-        return Place {
-            at: at,
-            have: have,
-            asks: false,
-            ended: p.ended,
-            failed: p.failed,
-        };
+        return Place { at, have, ..p };
     }
     let n = came(answer, size - have);
     Place {
-        at: at,
+        at,
         have: have + n,
         asks: false,
         ended: n == 0,
-        failed: is_failure(answer),
+        failed: answer.is_err(),
     }
 }
 
@@ -84,18 +69,17 @@ fn to_front(p: Place, at: usize, block: &mut [u8]) -> Place
     requires { (at ≤ p.have) × (p.have ≤ length block.old) }
     ensures { (result ≡ front_from p at) × (block.new ≡ put (held_from p at block.old) block.old) }
 {
-    let have = p.have;
-    let n = feed_blocks::move_front(&mut block[..have], at);
+    let have = feed_blocks::move_front(&mut block[..p.have], at);
     Place {
         at: 0,
-        have: n,
+        have,
         asks: true,
-        ended: p.ended,
-        failed: p.failed,
+        ..p
     }
 }
 
 // After a step that used `n` of the held bytes; `reads` is whether a read comes next.
+#[tactic(auto, unfolding(crate::specs::Place::gone_on, crate::specs::Place::block_on, text::specs::Pick::pick))]
 pub fn go_on(p: Place, n: usize, reads: bool, block: &mut [u8]) -> Place
     requires { (p.at + n ≤ p.have) × (p.have ≤ length block.old) }
     ensures { GoesOn reads p n block.old block.new result }
@@ -105,10 +89,8 @@ pub fn go_on(p: Place, n: usize, reads: bool, block: &mut [u8]) -> Place
         return to_front(p, at, block);
     }
     Place {
-        at: at,
-        have: p.have,
+        at,
         asks: false,
-        ended: p.ended,
-        failed: p.failed,
+        ..p
     }
 }

@@ -1,29 +1,25 @@
 -- What a call of a reader leaves, as a read may leave it; and what it took of the reader's bytes. Assumes nothing.
-use Prim.Native.Nat.{ℕ, ◌+◌, ◌-◌, ◌≤◌, ◌<◌}
+use Prim.Native.Nat.{ℕ, ◌+◌, ◌-◌, ◌≤◌}
 use native.Mathlib.Omega.{arith}
 use mathlib.Core.Path.{◌≡◌, ap, ◌∙◌}
-use mathlib.Core.Bool.{Bool, true, false, not}
+use mathlib.Core.Bool.{true, false, not, true≢false}
 use mathlib.Core.List.{List, [], ◌++◌, append-nil}
-use lib.IntN.{ℤ, pos, negsuc}
 use lib.ListN.{length, take, drop, length-append, length-take, length-drop}
 use lib.Seq.{take_at, drop_at, length-take-le, take-append-le, take-add}
 use borrow.Author.Tests.{not-true, not-false}
 use borrow.Rule.Slice.PartMut.{put_mid}
-use Rattle.std.specs.Io.KnownBytes.{Keeps, Consumes, IsAtEnd}
-use Rattle.std.specs.declared.option.Option.{Option}
-use Rattle.std.proofs.KnownBytes.{Keeps-refl}
+use Rattle.std.specs.Prelude.{Result, Ok, Err, is_ok, MatchResult, IfOk}
+use Rattle.std.specs.Counts.{IsPrefixLen}
 use Rattle.std.proofs.lemmas.List.{drop_all}
-use Rattle.feed_input.specs.Place.{Within}
+use Rattle.feed_input.specs.Place.{Answer, Within}
 use Rattle.feed_input.specs.Answers.{Kept}
 use Rattle.feed_input.specs.Answers.Answers.{unasked, came, fails}
 use Rattle.feed_input.specs.declared.Place.{Place}
-use Rattle.feed_refill.specs.Read.{Reading, Taken}
-
-pub not_taken : (asks : Bool) (z : ℤ) (known : Option (List ℕ)) (room : List ℕ) → not asks ≡ true → Taken asks z known known room
-not_taken asks z known room e = rw (not-true asks e) (Keeps-refl known)
+use Rattle.feed_input.specs.declared.ReadFailed.{ReadFailed}
+use Rattle.feed_refill.specs.Read.{Reading}
 
 module _ (p : Place) (block : List ℕ) where
-  pub no_read : (z : ℤ) → not p.asks ≡ true → Reading p block block z
+  pub no_read : (z : Answer) → not p.asks ≡ true → Reading p block block z
   no_read z e = record { bytes = []; answers = unasked z (not-true p.asks e) }
 
   -- the lent part was `take (length block - have) (drop have block)`, and is `ys`
@@ -47,20 +43,20 @@ module _ (p : Place) (block : List ℕ) where
         drop_at (take p.have block) _ p.have (length-take-le p.have block w.to_end) ∙ rw none (append-nil ys)
 
     -- so many bytes came
-    pub one_read : (n : ℕ) → n ≤ length ys → Reading p block block' (pos n)
+    one_read : (n : ℕ) → n ≤ length ys → Reading p block block' (Ok n)
     one_read n l =
         let front : take n (drop p.have block') ≡ take n ys = ap (take n) room_is in
         let e : length (take n ys) ≡ n = length-take-le n ys l in
         record { bytes = take n ys; answers = rw e at (came {bytes = take n ys} (not-false p.asks asked) kept (omega (arith, e, size, l, w.to_end)) (rw e front)) }
 
-    pub failed_read : (n : ℕ) → Reading p block block' (negsuc n)
-    failed_read n = record { bytes = []; answers = fails n (not-false p.asks asked) kept }
+    failed_read : (f : ReadFailed) → Reading p block block' (Err f)
+    failed_read f = record { bytes = []; answers = fails f (not-false p.asks asked) kept }
 
-    pub some_taken : (n : ℕ) (known known' : Option (List ℕ)) → Consumes known known' (take n ys) × (n ≡ 0 → 0 < length ys → IsAtEnd known') → Taken p.asks (pos n) known known' (drop p.have block')
-    some_taken n known known' h = rw (not-false p.asks asked) (rw room_is h)
-
-    pub none_taken : (n : ℕ) (known known' : Option (List ℕ)) → Keeps known known' → Taken p.asks (negsuc n) known known' (drop p.have block')
-    none_taken n known known' h = rw (not-false p.asks asked) h
+    -- as the code has it: `r` is what the reader answered, `a` what is said of it
+    pub read_so : {E : Type 0} (Q : E → Type 0) (r : Result ℕ E) (a : Answer) → is_ok a ≡ is_ok r → MatchResult r (λ n. a ≡ Ok n) Q → IfOk r (λ n. IsPrefixLen n ys) → Reading p block block' a
+    read_so Q (Ok n) a v is l = rw is (one_read n l.0)
+    read_so Q (Err e) (Ok n) v is l = absurd (true≢false v)
+    read_so Q (Err e) (Err f) v is l = failed_read f
 
 -- so many bytes more stand behind those that came before
 pub joined : (a k n : ℕ) (block ys : List ℕ) → a ≤ length block → n ≤ length ys → take (a + n) (put_mid a k block ys) ≡ take a block ++ take n ys

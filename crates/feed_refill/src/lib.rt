@@ -6,25 +6,21 @@ ghost use Rattle.std.specs.Io.KnownBytes.{Consumes};
 ghost use Rattle.feed_input.specs.Place.{Within};
 ghost use Rattle.feed_refill.specs.Read.{Reading, Taken};
 
-use feed_input::Place;
+use feed_input::{Place, ReadFailed};
 use std::fs::File;
 use std::io::Read;
 use std::rt::Files;
 
-// One read, where a place asks for one: the answer as the system gave it. Where none is asked for, no call is made.
-pub fn read_input<R: Read>(input: &mut R, p: Place, block: &mut [u8]) -> isize
+// One read, where a place asks for one: how many bytes came. Where none is asked for, no call is made.
+pub fn read_input<R: Read>(input: &mut R, p: Place, block: &mut [u8]) -> Result<usize, ReadFailed>
     requires { Within p (length block.old) }
     ensures reading { Reading p block.old block.new result }
     ensures taken { Taken p.asks result (R.remaining input.old) (R.remaining input.new) (drop p.have block.new) }
 {
     if !p.asks {
-        return 0;
+        return Ok(0);
     }
-    let have = p.have;
-    match input.read(&mut block[have..]) {
-        Ok(n) => n as isize,
-        Err(_) => -1,
-    }
+    input.read(&mut block[p.have..]).map_err(|_| ReadFailed)
 }
 
 // Reads until the block is full, the input ends or a read fails, and answers how many bytes came.

@@ -4,19 +4,15 @@ use native.Mathlib.Omega.{arith}
 use mathlib.Core.Path.{◌≡◌, refl, ap, ◌∙◌}
 use mathlib.Core.Bool.{Bool}
 use mathlib.Core.List.{List, [], ◌∷◌}
-use lib.IntN.{ℤ}
 use lib.ListN.{length, take, drop, length-drop}
 use lib.Seq.{take_all}
-use mir.Syntax.{w64}
-use mir.Val.{to_z, of_z, SFits}
-use mir.ValLaws.{to_z-of_z}
 use Rattle.rules.specs.declared.Settings.{Settings}
 use Rattle.feed_gather.specs.Gather.{Program, Progress, started, lines_taken, block_taken, Stands}
 use Rattle.feed_gather.specs.declared.Fed.{Fed}
 use Rattle.feed_gather.proofs.Within.{block_within}
 use Rattle.text.specs.Put.{Written}
 use Rattle.text.proofs.Writing.{written_nothing, length_put}
-use Rattle.feed_input.specs.Place.{Within, held, taken_in}
+use Rattle.feed_input.specs.Place.{Answer, Within, held, taken_in}
 use Rattle.feed_input.specs.declared.Place.{Place}
 use Rattle.feed_input.proofs.Held.{length_held, in_within, size_on, within_on}
 use Rattle.feed_step.specs.Step.{opening, way_of, from_by, taken_by, used_by, reads_by, is_over, Settles, place_in, way_in, progress_in, Steps}
@@ -66,7 +62,7 @@ used_taken g out err Stop u st table names number h = omega arith
 
 -- ---- as the code has it: `p` is the place with the answer, `w` the way, `f` what was taken
 
-module _ (s : Standing) (z : ℤ) (block : List ℕ) (p : Place) (place : p ≡ taken_in s.place z (length block)) where
+module _ (s : Standing) (z : Answer) (block : List ℕ) (p : Place) (place : p ≡ taken_in s.place z (length block)) where
   within : Within p (length block)
   within = rw place (in_within s.place z (length block))
 
@@ -135,21 +131,13 @@ pub line_in : (w : Way) (from used n : ℕ) → w ≡ Line from used → from_by
 unfolding from_by
 line_in w from used n e l = rw e at l
 
--- ---- the answer of a read is read back from its bits
-
-pub stepped_as : (s : Standing) (z : ℤ) (block : List ℕ) (p : Place) → SFits w64 z → p ≡ taken_in s.place (to_z w64 (of_z w64 z)) (length block) → (w : Way) → w ≡ way_of s.passing p s.number (length block) (held p block)
-    → (g : Program) (table names out err table' names' out' err' : List ℕ) (f : Fed) → Stands out err (taken_by g (length out) (length err) w (held p block) (started s.settings table names s.number)) table' names' out' err' f
-    → (block' : List ℕ) (r : Stepped) → Settles s.passing p w f block block' r → Steps g s z table names block out err table' names' block' out' err' r
-stepped_as s z block p fits place w way g table names out err table' names' out' err' f stands block' r e =
-    stepped s z block p (place ∙ ap (λ (y : ℤ). taken_in s.place y (length block)) (to_z-of_z w64 z fits)) w way g table names out err table' names' out' err' f stands block' r e
-
 -- ---- for a program
 
 written_size : {t b a : List ℕ} {n : ℕ} → Written t b a n → length a ≡ length b
 written_size {t} {b} w = ap length w.tape ∙ length_put t b (omega (arith, w.count_is, w.within))
 
 -- where it then stands is in the block, which keeps its size
-module _ {g : Program} {s : Standing} {z : ℤ} {table names block out err table' names' block' out' err' : List ℕ} {r : Stepped} (st : Steps g s z table names block out err table' names' block' out' err' r) where
+module _ {g : Program} {s : Standing} {z : Answer} {table names block out err table' names' block' out' err' : List ℕ} {r : Stepped} (st : Steps g s z table names block out err table' names' block' out' err' r) where
   abbrev p : Place
   p = place_in s z block
 

@@ -1,15 +1,15 @@
 -- A SESSION: the reads and steps of a program that takes a day file, in any order that its answers allow, to its last step. A read brings any bytes, as many as there is room for, or none at the input's end, or it fails; each link is what a step promises. Assumes nothing.
-use Rattle.std.specs.Prelude.{ℕ, suc, ◌≤◌, ◌≡◌, Bool, true, false, not, List, ◌++◌, ℤ, length, take}
+use Rattle.std.specs.Prelude.{ℕ, suc, ◌≤◌, ◌≡◌, Bool, true, false, not, List, ◌++◌, length, take}
 use Rattle.feed_gather.specs.Gather.{Program}
 use Rattle.feed_input.specs.Answers.{Answers}
-use Rattle.feed_input.specs.Place.{Within}
+use Rattle.feed_input.specs.Place.{Answer, Within}
 use Rattle.feed_step.specs.Step.{Steps}
 use Rattle.feed_step.specs.declared.Standing.{Standing}
 use Rattle.feed_step.specs.declared.Stepped.{Stepped}
 
 -- one turn: a read, where one is asked for, and a step, lent room for what is told of a line at least
 pub record Turn (g : Program) (s : Standing) (table names block bytes : List ℕ) (out err : List ℕ) (table' names' block' : List ℕ) (r : Stepped) : Type 0 where
-  pub answer : ℤ
+  pub answer : Answer
   pub read : List ℕ
   pub lent_out : List ℕ
   pub lent_err : List ℕ
@@ -38,7 +38,7 @@ turns (last t o) = 1
 -- ---- what a program promises of a turn: a read, for some bytes, and a step with what it lends
 pub record Turned (g : Program) (s : Standing) (table names block out err table' names' block' out' err' : List ℕ) (r : Stepped) : Type 0 where
   pub bytes : List ℕ
-  pub answer : ℤ
+  pub answer : Answer
   pub read : List ℕ
   pub answers : Answers s.place block bytes answer read
   pub steps : Steps g s answer table names read out err table' names' block' out' err' r

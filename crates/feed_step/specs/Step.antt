@@ -1,5 +1,5 @@
 -- One step of a program that takes a day file, whatever it tells of a line. Assumes nothing.
-use Rattle.std.specs.Prelude.{ℕ, ◌+◌, ◌≡◌, Bool, true, false, List, [], ◌∷◌, leb, ltb, eqb, ℤ, length, drop}
+use Rattle.std.specs.Prelude.{ℕ, ◌+◌, ◌≡◌, Bool, true, false, List, [], ◌∷◌, leb, ltb, eqb, length, drop}
 use Rattle.text.specs.Pick.{pick}
 use Rattle.text.specs.Put.{Written}
 use Rattle.rules.specs.Day.{opened}
@@ -8,7 +8,7 @@ use Rattle.feed_blocks.specs.Lines.{line_end}
 use Rattle.feed_gather.specs.Gather.{last_line, Program, Progress, started, lines_taken, block_taken}
 use Rattle.feed_gather.specs.declared.Fed.{Fed}
 use Rattle.feed_input.specs.Place as input
-use Rattle.feed_input.specs.Place.{held, taken_in, gone_on, block_on}
+use Rattle.feed_input.specs.Place.{Answer, held, taken_in, gone_on, block_on}
 use Rattle.feed_input.specs.declared.Place.{Place}
 use Rattle.feed_step.specs.declared.Standing.{Standing}
 use Rattle.feed_step.specs.declared.Stepped.{Stepped}
@@ -92,19 +92,19 @@ pub record Settles (passing : Bool) (p : Place) (way : Way) (f : Fed) (block blo
   pub err_is : r.err ≡ f.err
   pub over_is : r.over ≡ is_over way
 
--- ---- THE STEP of a program: from where it stands, the answer of a read as the system gave it, both tables, the block and the memory lent for what is told
+-- ---- THE STEP of a program: from where it stands, the answer of a read, both tables, the block and the memory lent for what is told
 
-abbrev pub place_in : Standing → ℤ → List ℕ → Place
+abbrev pub place_in : Standing → Answer → List ℕ → Place
 place_in s answer block = taken_in s.place answer (length block)
 
-abbrev pub way_in : Standing → ℤ → List ℕ → Way
+abbrev pub way_in : Standing → Answer → List ℕ → Way
 way_in s answer block = way_of s.passing (place_in s answer block) s.number (length block) (held (place_in s answer block) block)
 
-abbrev pub progress_in : Program → Standing → ℤ → List ℕ → List ℕ → List ℕ → ℕ → ℕ → Progress
+abbrev pub progress_in : Program → Standing → Answer → List ℕ → List ℕ → List ℕ → ℕ → ℕ → Progress
 progress_in g s answer table names block out err = taken_by g out err (way_in s answer block) (held (place_in s answer block) block) (started s.settings table names s.number)
 
 -- the promise of a program's `step`: where it then stands, both tables, the block, what is told, and whether it was the last
-pub record Steps (g : Program) (s : Standing) (answer : ℤ) (table names block out err table' names' block' out' err' : List ℕ) (r : Stepped) : Type 0 where
+pub record Steps (g : Program) (s : Standing) (answer : Answer) (table names block out err table' names' block' out' err' : List ℕ) (r : Stepped) : Type 0 where
   pub standing_is : r.standing ≡ standing_by s.passing (place_in s answer block) (way_in s answer block) (progress_in g s answer table names block (length out) (length err)).at (progress_in g s answer table names block (length out) (length err)).settings (progress_in g s answer table names block (length out) (length err)).number
   pub table_is : table' ≡ (progress_in g s answer table names block (length out) (length err)).table
   pub names_is : names' ≡ (progress_in g s answer table names block (length out) (length err)).names

@@ -8,6 +8,7 @@ ghost use Rattle.read_told.specs.Lines.{print_line};
 ghost use Rattle.read_step.specs.Step.{Steps as Stepping};
 ghost use Rattle.read_facts.specs.Facts.{longest_line};
 
+use feed_input::ReadFailed;
 use read_step::{Standing, Stepped};
 use read_tape::Reading;
 
@@ -56,7 +57,12 @@ pub fn tell_block(block: &[u8], place: u64, ended: bool, lines: &mut [u8]) -> Re
 }
 
 // As `read_step::step`.
-pub fn step(s: Standing, answer: isize, block: &mut [u8], lines: &mut [u8]) -> Stepped
+pub fn step(
+    s: Standing,
+    answer: Result<usize, ReadFailed>,
+    block: &mut [u8],
+    lines: &mut [u8],
+) -> Stepped
     ensures { Stepping print_line longest_line s answer block.old lines.old block.new lines.new result }
 {
     let place = s.place;

@@ -4,14 +4,14 @@ use native.Mathlib.Omega.{arith}
 use mathlib.Core.Path.{◌≡◌, refl, sym, ap, ◌∙◌}
 use mathlib.Core.Bool.{Bool, true, false, not}
 use mathlib.Core.List.{List, [], ◌∷◌, ◌++◌, append_assoc}
-use lib.IntN.{ℤ, pos}
 use lib.ListN.{length, take, drop, length-append, length-drop}
 use lib.Seq.{take_at, drop_at, length-take-le}
+use Rattle.std.specs.Prelude.{Ok}
 use Rattle.text.specs.Put.{put}
 use Rattle.text.proofs.Booleans.{false_true}
 use Rattle.rules.specs.Sizes.{longest_print}
 use Rattle.feed_input.specs.declared.Place.{Place}
-use Rattle.feed_input.specs.Place.{held, taken_in}
+use Rattle.feed_input.specs.Place.{Answer, held, taken_in}
 use Rattle.feed_input.specs.Answers.{Answers}
 use Rattle.feed_input.specs.Answers.Answers.{unasked, came}
 use Rattle.feed_input.proofs.Held.{in_quiet, in_came}
@@ -28,7 +28,7 @@ use Rattle.read_step.proofs.Turns.{extra_least, cost, link_pays}
 
 -- ---- every step there is
 
-module _ (line : Line) (most : ℕ) (tells : Tells line most) (s : Standing) (z : ℤ) (block lines : List ℕ) where
+module _ (line : Line) (most : ℕ) (tells : Tells line most) (s : Standing) (z : Answer) (block lines : List ℕ) where
   abbrev made : Step
   made = step_of line most s z block (length lines)
 
@@ -53,7 +53,7 @@ record One (s : Standing) (block input : List ℕ) : Type 0 where
   bytes : List ℕ
   rest : List ℕ
   joined : bytes ++ rest ≡ input
-  answer : ℤ
+  answer : Answer
   block' : List ℕ
   answers : Answers s.place block bytes answer block'
   unfailed : (taken_in s.place answer (length block')).failed ≡ false
@@ -63,14 +63,14 @@ module _ (s : Standing) (block : List ℕ) (g : Sound s.place (length block)) wh
   -- none is asked for
   none_read : (input : List ℕ) → s.place.asks ≡ false → (s.place.ended ≡ true → input ≡ []) → One s block input
   none_read input q e =
-      let is = in_quiet s.place (length block) g.within (pos 0) q in
+      let is = in_quiet s.place (length block) g.within (Ok 0) q in
       record {
         bytes = [];
         rest = input;
         joined = refl;
-        answer = pos 0;
+        answer = Ok 0;
         block' = block;
-        answers = unasked (pos 0) q;
+        answers = unasked (Ok 0) q;
         unfailed = ap (λ p. p.failed) is ∙ g.unfailed;
         alone = λ h. e (sym (ap (λ p. p.ended) is) ∙ h);
       }
@@ -84,7 +84,7 @@ module _ (s : Standing) (block : List ℕ) (g : Sound s.place (length block)) wh
           bytes = [];
           rest = [];
           joined = refl;
-          answer = pos 0;
+          answer = Ok 0;
           block' = block;
           answers = came {bytes = []} q (record { size = refl; kept = refl }) (omega (arith, g.within.to_end)) refl;
           unfailed = ap (λ p. p.failed) is;
@@ -105,12 +105,12 @@ module _ (s : Standing) (block : List ℕ) (g : Sound s.place (length block)) wh
       byte_read : One s block (c ∷ input)
       byte_read =
           let t = length-take-le have block (omega arith) in
-          let is : taken_in s.place (pos 1) (length after) ≡ record { at = s.place.at; have = have + 1; asks = false; ended = false; failed = false } = ap (taken_in s.place (pos 1)) size ∙ in_came s.place (length block) g.within 1 q (omega arith) in
+          let is : taken_in s.place (Ok 1) (length after) ≡ record { at = s.place.at; have = have + 1; asks = false; ended = false; failed = false } = ap (taken_in s.place (Ok 1)) size ∙ in_came s.place (length block) g.within 1 q (omega arith) in
           record {
             bytes = c ∷ [];
             rest = input;
             joined = refl;
-            answer = pos 1;
+            answer = Ok 1;
             block' = after;
             answers = came {bytes = c ∷ []} q (record { size = size; kept = take_at (take have block) (c ∷ drop (have + 1) block) have t }) (omega arith) (ap (take 1) (drop_at (take have block) (c ∷ drop (have + 1) block) have t));
             unfailed = ap (λ p. p.failed) is;

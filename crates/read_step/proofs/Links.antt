@@ -5,13 +5,12 @@ use mathlib.Core.Path.{◌≡◌, sym, ap, ◌∙◌, subst}
 use mathlib.Core.Bool.{Bool, true, false, true≢false}
 use mathlib.Core.List.{List, []}
 use lib.Dec.{eqb}
-use lib.IntN.{ℤ}
 use lib.ListN.{length, take, drop, length-append, length-drop}
 use Rattle.text.specs.Pick.{pick}
 use Rattle.text.proofs.Parts.{front}
 use Rattle.rules.specs.Sizes.{longest_print}
 use Rattle.feed_input.specs.declared.Place.{Place}
-use Rattle.feed_input.specs.Place.{held, taken_in}
+use Rattle.feed_input.specs.Place.{Answer, held, taken_in}
 use Rattle.feed_input.specs.Answers.{Answers}
 use Rattle.feed_input.proofs.Held.{After, after_read}
 use Rattle.read_tape.specs.Tape.{Line}
@@ -22,7 +21,7 @@ use Rattle.read_step.specs.declared.Stepped.{Stepped}
 use Rattle.read_step.specs.Step.{Step, step_of, Leads, Steps}
 use Rattle.read_step.proofs.How.{Sound, reading, stops, moved, How, fails, halts, moves, how, moved_held, moved_size, moved_ended, moved_asks, moved_sound, moved_room}
 
-module _ {line : Line} {most : ℕ} {s : Standing} {block bytes block' block'' lines lines' : List ℕ} {answer : ℤ} {r : Stepped} (g : Sound s.place (length block)) (a : Answers s.place block bytes answer block') (st : Steps line most s answer block' lines block'' lines' r) where
+module _ {line : Line} {most : ℕ} {s : Standing} {block bytes block' block'' lines lines' : List ℕ} {answer : Answer} {r : Stepped} (g : Sound s.place (length block)) (a : Answers s.place block bytes answer block') (st : Steps line most s answer block' lines block'' lines' r) where
   -- the place that the read left, and the reading of what is held then
   abbrev pub place : Place
   place = taken_in s.place answer (length block')

@@ -1,16 +1,12 @@
 -- A program's turn: a read, and a step behind it. Assumes nothing.
 use Prim.Native.Nat.{ℕ, ◌≤◌}
 use native.Mathlib.Omega.{arith}
-use mathlib.Core.Path.{◌≡◌, ap, subst}
+use mathlib.Core.Path.{◌≡◌, ap}
 use mathlib.Core.List.{List}
-use lib.IntN.{ℤ}
 use lib.ListN.{length}
-use mir.Syntax.{w64}
-use mir.Val.{to_z, of_z, SFits}
-use mir.ValLaws.{to_z-of_z}
 use Rattle.text.proofs.Writing.{length_put}
 use Rattle.feed_input.specs.declared.Place.{Place}
-use Rattle.feed_input.specs.Place.{Within, taken_in}
+use Rattle.feed_input.specs.Place.{Answer, Within, taken_in}
 use Rattle.feed_input.specs.Answers.{Answers}
 use Rattle.feed_input.proofs.Held.{in_within}
 use Rattle.read_tape.specs.Tape.{Line}
@@ -23,7 +19,7 @@ use Rattle.read_step.proofs.How.{How, fails, halts, moves, how, moved_size, move
 pub opened_within : (s : Standing) (size : ℕ) → s ≡ opened → Within s.place size
 opened_within s size e = rw e (record { from_to = omega arith; to_end = omega arith })
 
-module _ {line : Line} {most : ℕ} {s : Standing} {block lines block' lines' : List ℕ} {z : ℤ} {r : Stepped} (st : Steps line most s z block lines block' lines' r) where
+module _ {line : Line} {most : ℕ} {s : Standing} {block lines block' lines' : List ℕ} {z : Answer} {r : Stepped} (st : Steps line most s z block lines block' lines' r) where
   abbrev p : Place
   p = taken_in s.place z (length block)
 
@@ -45,8 +41,6 @@ module _ {line : Line} {most : ℕ} {s : Standing} {block lines block' lines' : 
       let w = st.leads.text_is in
       omega (arith, ap length w.tape, length_put (step_of line most s z block (length lines)).text lines (omega (arith, w.count_is, w.within)), w.within)
 
--- an answer is read back from its bits
-pub turns_so : {line : Line} {most : ℕ} {s : Standing} {block bytes block' block'' lines lines' : List ℕ} {z : ℤ} {r : Stepped} → SFits w64 z → Answers s.place block bytes z block' → Steps line most s (to_z w64 (of_z w64 z)) block' lines block'' lines' r → Turn line most s block lines block'' lines' r
-turns_so {line} {most} {s} {block} {bytes} {block'} {block''} {lines} {lines'} {z} {r} f a st =
-    let x : Steps line most s z block' lines block'' lines' r = subst (λ y. Steps line most s y block' lines block'' lines' r) (to_z-of_z w64 z f) st in
-    record { bytes = bytes; answer = z; block' = block'; answers = a; steps = x; within = step_within x; count = step_count x }
+-- a program's turn
+pub turns_so : {line : Line} {most : ℕ} {s : Standing} {block bytes block' block'' lines lines' : List ℕ} {z : Answer} {r : Stepped} → Answers s.place block bytes z block' → Steps line most s z block' lines block'' lines' r → Turn line most s block lines block'' lines' r
+turns_so {bytes = bytes} {block' = block'} {z = z} a st = record { bytes = bytes; answer = z; block' = block'; answers = a; steps = st; within = step_within st; count = step_count st }

@@ -4,14 +4,13 @@ use native.Mathlib.Omega.{arith}
 use mathlib.Core.Path.{◌≡◌, refl, sym, ap, ◌∙◌}
 use mathlib.Core.Bool.{Bool, true, false, not, true≢false}
 use mathlib.Core.List.{List, [], ◌∷◌, ◌++◌, append_assoc, append-nil}
-use lib.IntN.{ℤ}
 use lib.ListN.{length, take, drop, length-append}
 use lib.Seq.{drop-drop, drop-nil, drop-append-le}
 use Rattle.text.specs.Pick.{pick}
 use Rattle.text.proofs.Booleans.{false_true}
 use Rattle.rules.specs.Sizes.{longest_print}
 use Rattle.feed_input.specs.declared.Place.{Place}
-use Rattle.feed_input.specs.Place.{held}
+use Rattle.feed_input.specs.Place.{Answer, held}
 use Rattle.feed_input.specs.Answers.{Answers}
 use Rattle.feed_input.specs.Answers.Answers.{unasked, came, fails}
 use Rattle.read_tape.specs.Tape.{Line, Tells, place_line, read_from, read_text}
@@ -32,7 +31,7 @@ empty (c ∷ l) h = absurd (omega arith)
 
 -- ---- at the input's end
 
-pub none_asked : {p : Place} {block bytes block' : List ℕ} {z : ℤ} → p.asks ≡ false → Answers p block bytes z block' → bytes ≡ []
+pub none_asked : {p : Place} {block bytes block' : List ℕ} {z : Answer} → p.asks ≡ false → Answers p block bytes z block' → bytes ≡ []
 none_asked e (unasked z q) = refl
 none_asked e (came q k l c) = absurd (false_true (sym e ∙ q))
 none_asked e (fails code q k) = refl
@@ -90,7 +89,7 @@ reaches g (next {bytes = bytes} {input = input} z a st o x) =
 reaches g (last z a st o) = let w = link.ends g a st o in record { further = omega (arith, w.at_is); within = omega (arith, w.at_is) }
 
 -- one link: its text, and what is written from where it leads
-module _ {line : Line} {most : ℕ} (tells : Tells line most) {s : Standing} {block bytes block' block'' lines lines' : List ℕ} {answer : ℤ} {r : Stepped} (g : Sound s.place (length block)) (a : Answers s.place block bytes answer block') (st : Steps line most s answer block' lines block'' lines' r) where
+module _ {line : Line} {most : ℕ} (tells : Tells line most) {s : Standing} {block bytes block' block'' lines lines' : List ℕ} {answer : Answer} {r : Stepped} (g : Sound s.place (length block)) (a : Answers s.place block bytes answer block') (st : Steps line most s answer block' lines block'' lines' r) where
   abbrev b : Progress
   b = link.told g a st
 

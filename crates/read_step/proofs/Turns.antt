@@ -5,11 +5,10 @@ use mathlib.Core.Path.{◌≡◌, refl, sym, ap, ◌∙◌}
 use mathlib.Core.Bool.{Bool, true, false, true≢false}
 use mathlib.Core.List.{List, ◌++◌}
 use lib.Dec.{eqb}
-use lib.IntN.{ℤ}
 use lib.ListN.{length, length-append}
 use borrow.Author.Tests.{eqb-false}
 use Rattle.text.proofs.Booleans.{nonzero}
-use Rattle.feed_input.specs.Place.{held}
+use Rattle.feed_input.specs.Place.{Answer, held}
 use Rattle.feed_input.specs.Answers.{Answers}
 use Rattle.read_tape.specs.Tape.{Line}
 use Rattle.read_step.specs.declared.Standing.{Standing}
@@ -36,7 +35,7 @@ abbrev pub cost : Standing → List ℕ → List ℕ → ℕ
 cost s block input = length (held s.place block) + 2 * length input + extra s.place.asks s.place.ended
 
 -- a link pays for itself
-module _ {line : Line} {most : ℕ} {s : Standing} {block bytes block' block'' lines lines' : List ℕ} {answer : ℤ} {r : Stepped} (g : Sound s.place (length block)) (a : Answers s.place block bytes answer block') (st : Steps line most s answer block' lines block'' lines' r) (o : r.over ≡ false) where
+module _ {line : Line} {most : ℕ} {s : Standing} {block bytes block' block'' lines lines' : List ℕ} {answer : Answer} {r : Stepped} (g : Sound s.place (length block)) (a : Answers s.place block bytes answer block') (st : Steps line most s answer block' lines block'' lines' r) (o : r.over ≡ false) where
   abbrev w : link.Goes g a st
   w = link.goes g a st o
 

@@ -1,20 +1,18 @@
 -- The ways out of the functions. Assumes nothing.
 use Prim.Native.Nat.{ℕ, ◌+◌, ◌≤◌}
 use native.Mathlib.Omega.{arith}
-use mathlib.Core.Path.{◌≡◌, refl, sym, ap, ◌∙◌, subst}
+use mathlib.Core.Path.{◌≡◌, refl, sym, ◌∙◌, subst}
 use mathlib.Core.Bool.{Bool, true, false, not}
 use mathlib.Core.List.{List}
 use lib.Dec.{eqb}
-use lib.IntN.{ℤ}
 use lib.ListN.{length}
 use mir.Syntax.{w64}
-use mir.Val.{to_z, of_z, Fits, SFits}
-use mir.ValLaws.{to_z-of_z}
+use mir.Val.{Fits}
 use borrow.Author.Tests.{eq-eqb, ne_eqb, not-true, not-false}
 use Rattle.text.specs.Pick.{pick}
 use Rattle.text.proofs.Writing.{written_nothing}
 use Rattle.feed_input.specs.declared.Place.{Place}
-use Rattle.feed_input.specs.Place.{opening, Within, held, taken_in, GoesOn}
+use Rattle.feed_input.specs.Place.{Answer, opening, Within, held, taken_in, GoesOn}
 use Rattle.feed_input.proofs.Held.{length_held, in_within}
 use Rattle.read_tape.specs.declared.Reading.{Reading}
 use Rattle.read_tape.specs.Tape.{Line}
@@ -70,11 +68,7 @@ module _ (p : Place) (at : ℕ) (r : Reading) (block : List ℕ) (over : Bool) (
 
 -- ---- step
 
-module _ (line : Line) (most : ℕ) (s : Standing) (z : ℤ) (block lines : List ℕ) (fits : SFits w64 z) (p : Place) (is : p ≡ taken_in s.place (to_z w64 (of_z w64 z)) (length block)) where
-  -- an answer is read back from its bits
-  taken : p ≡ taken_in s.place z (length block)
-  taken = is ∙ ap (λ y. taken_in s.place y (length block)) (to_z-of_z w64 z fits)
-
+module _ (line : Line) (most : ℕ) (s : Standing) (z : Answer) (block lines : List ℕ) (p : Place) (taken : p ≡ taken_in s.place z (length block)) where
   within : Within p (length block)
   within = subst (λ q. Within q (length block)) (sym taken) (in_within s.place z (length block))
 

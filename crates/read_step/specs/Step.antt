@@ -1,9 +1,9 @@
 -- One step of a program over a tape (document 01, "Reader"), whatever its lines tell of a print. Assumes nothing.
-use Rattle.std.specs.Prelude.{ℕ, ◌+◌, ◌≡◌, Bool, true, false, List, [], eqb, ℤ, length}
+use Rattle.std.specs.Prelude.{ℕ, ◌+◌, ◌≡◌, Bool, true, false, List, [], eqb, length}
 use Rattle.text.specs.Pick.{pick}
 use Rattle.text.specs.Put.{Written}
 use Rattle.feed_input.specs.declared.Place.{Place}
-use Rattle.feed_input.specs.Place.{opening, held, taken_in, gone_on, block_on}
+use Rattle.feed_input.specs.Place.{Answer, opening, held, taken_in, gone_on, block_on}
 use Rattle.read_tape.specs.declared.Reading.{Reading}
 use Rattle.read_tape.specs.Tape.{Line}
 use Rattle.read_tape.specs.Block.{Progress, block_read}
@@ -55,7 +55,7 @@ unfoldable pub step_from : Line → ℕ → Place → ℕ → List ℕ → ℕ �
 step_from line most p at block room = pick p.failed (failing p at block) (telling p at block (block_read line most room (held p block) at p.ended))
 
 -- THE STEP: the answer of a read is taken in, and the prints of what is held are told, in `room` bytes for lines
-unfoldable pub step_of : Line → ℕ → Standing → ℤ → List ℕ → ℕ → Step
+unfoldable pub step_of : Line → ℕ → Standing → Answer → List ℕ → ℕ → Step
 step_of line most s answer block room = step_from line most (taken_in s.place answer (length block)) s.at block room
 
 -- ---- the promises: the block and the lent lines were `block` and `lines`, and are `block'` and `lines'`
@@ -75,5 +75,5 @@ pub record Leads (x : Step) (lines block' lines' : List ℕ) (r : Stepped) : Typ
   pub text_is : Written x.text lines lines' r.count
 
 -- `step`
-pub record Steps (line : Line) (most : ℕ) (s : Standing) (answer : ℤ) (block lines block' lines' : List ℕ) (r : Stepped) : Type 0 where
+pub record Steps (line : Line) (most : ℕ) (s : Standing) (answer : Answer) (block lines block' lines' : List ℕ) (r : Stepped) : Type 0 where
   pub leads : Leads (step_of line most s answer block (length lines)) lines block' lines' r

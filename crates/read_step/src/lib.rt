@@ -9,7 +9,7 @@ ghost use Rattle.std.specs.Prelude.{◌≡◌, true, ◌+◌, ◌≤◌, length}
 ghost use Rattle.read_tape.specs.Tape.{place_line};
 ghost use Rattle.read_step.specs.Step.{opened, is_over, Further, Steps};
 
-use feed_input::Place;
+use feed_input::{Place, ReadFailed};
 use read_tape::Reading;
 
 // `at` is the place on the tape of the first byte that is held.
@@ -76,9 +76,14 @@ pub fn go_further(p: Place, at: u64, r: Reading, block: &mut [u8]) -> Stepped
     }
 }
 
-// The answer of a read, as the system gave it, where one was asked for; then the prints of what is held, as many as may be told
+// The answer of a read, where one was asked for; then the prints of what is held, as many as may be told
 // and as there is room for. A failed read ends it: nothing more is told.
-pub fn step(s: Standing, answer: isize, block: &mut [u8], lines: &mut [u8]) -> Stepped
+pub fn step(
+    s: Standing,
+    answer: Result<usize, ReadFailed>,
+    block: &mut [u8],
+    lines: &mut [u8],
+) -> Stepped
     ensures { Steps place_line 21 s answer block.old lines.old block.new lines.new result }
 {
     let place = s.place;

@@ -1,4 +1,4 @@
-use Rattle.feed_step.proofs.Steps.{held_from, held_to, line_from, used_fits, stepped_as}
+use Rattle.feed_step.proofs.Steps.{held_from, held_to, line_from, used_fits, stepped}
 use Rattle.feed_lines.specs.Feed.{day_program}
 use Rattle.feed_day.proofs.step.Goals as goal
 
@@ -27,4 +27,4 @@ pub settle-requires : goal.settle-requires
 settle-requires c = used_fits c.args.s _ _ _ c.take_in-p.ensures _ c.way_of-way.ensures day_program _ _ _ _ _ _ _ _ _ c.carry_out-f.ensures
 
 pub returns : goal.returns
-returns c = stepped_as c.args.s _ _ _ c.ranges.answer c.take_in-p.ensures _ c.way_of-way.ensures day_program _ _ _ _ _ _ _ _ _ c.carry_out-f.ensures _ _ c.settle.ensures
+returns c = stepped c.args.s _ _ _ c.take_in-p.ensures _ c.way_of-way.ensures day_program _ _ _ _ _ _ _ _ _ c.carry_out-f.ensures _ _ c.settle.ensures
