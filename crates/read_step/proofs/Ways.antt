@@ -2,17 +2,16 @@
 use Prim.Native.Nat.{ℕ, ◌+◌, ◌≤◌}
 use native.Mathlib.Omega.{arith}
 use mathlib.Core.Path.{◌≡◌, refl, sym, ◌∙◌, subst}
-use mathlib.Core.Bool.{Bool, true, false, not}
+use mathlib.Core.Bool.{Bool, true, false}
 use mathlib.Core.List.{List}
 use lib.Dec.{eqb}
 use lib.ListN.{length}
 use mir.Syntax.{w64}
 use mir.Val.{Fits}
-use borrow.Author.Tests.{eq-eqb, ne_eqb, not-true, not-false}
 use Rattle.text.specs.Pick.{pick}
 use Rattle.text.proofs.Writing.{written_nothing}
 use Rattle.feed_input.specs.declared.Place.{Place}
-use Rattle.feed_input.specs.Place.{Answer, opening, Within, held, taken_in, GoesOn}
+use Rattle.feed_input.specs.Place.{Answer, Within, held, taken_in, GoesOn}
 use Rattle.feed_input.proofs.Held.{length_held, in_within}
 use Rattle.read_tape.specs.declared.Reading.{Reading}
 use Rattle.read_tape.specs.Tape.{Line}
@@ -20,26 +19,11 @@ use Rattle.read_tape.specs.Block.{block_read, Stands}
 use Rattle.read_tape.proofs.LookAhead.{block_within, block_placed}
 use Rattle.read_step.specs.declared.Standing.{Standing}
 use Rattle.read_step.specs.declared.Stepped.{Stepped}
-use Rattle.read_step.specs.Step.{opened, is_over, standing_on, block_over, failing, telling, step_from, step_of, Further, Steps}
-
-pub starts : (p : Place) → p ≡ opening → record { place = p; at = 0 } ≡ opened
-starts p e = rw e
+use Rattle.read_step.specs.Step.{is_over, standing_on, block_over, failing, telling, step_from, step_of, Further, Steps}
 
 -- ---- is_over
 
 module _ (going : Bool) (n : ℕ) (ended : Bool) where
-  pub over_stopped : not going ≡ true → true ≡ is_over going n ended
-  unfolding is_over pick
-  over_stopped h = rw (not-true going h)
-
-  pub over_ended : not going ≡ false → n ≡ 0 → ended ≡ is_over going n ended
-  unfolding is_over pick
-  over_ended h z = rw (not-false going h, eq-eqb n 0 z)
-
-  pub over_moved : not going ≡ false → (n ≡ 0 → ⊥) → false ≡ is_over going n ended
-  unfolding is_over pick
-  over_moved h z = rw (not-false going h, ne_eqb n 0 z)
-
   pub not_over : is_over going n ended ≡ false → going ≡ true
   unfolding is_over pick
   not_over h = go going refl

@@ -1,8 +1,8 @@
 // Where a program over a tape stands (document 01, "Reader"), and one step of it. No input or output here: a program reads where
 // its place asks for it, steps, and writes the lines that were handed out.
 //
-//     step        of the reader's program: place and length of each print
-//     go_further  a step's end, whatever its lines tell: over, or where the next step begins
+//     step_telling  one step, whatever is told of a print
+//     step          of the reader's program: place and length of each print
 #![tactic(auto)]
 
 ghost use Rattle.std.specs.Prelude.{◌≡◌, true, ◌+◌, ◌≤◌, length};
@@ -10,7 +10,7 @@ ghost use Rattle.read_tape.specs.Tape.{place_line};
 ghost use Rattle.read_step.specs.Step.{opened, is_over, Further, Steps};
 
 use feed_input::{Place, ReadFailed};
-use read_tape::Reading;
+use read_tape::{PlaceLines, Reading, TellPrint};
 
 // `at` is the place on the tape of the first byte that is held.
 #[derive(Clone, Copy)]
@@ -30,54 +30,65 @@ pub struct Stepped {
 pub fn started() -> Standing
     ensures { result ≡ opened }
 {
-    let place = feed_input::opened();
     Standing {
-        place: place,
+        place: feed_input::opened(),
         at: 0,
     }
 }
 
 // The reading goes on no more, or the input is at its end and nothing was read.
+#[tactic(auto, unfolding(crate::specs::Step::is_over, text::specs::Pick::pick))]
 fn is_over(r: Reading, ended: bool) -> bool
     ensures { result ≡ is_over r.going r.at ended }
 {
-    if !r.going {
-        return true;
-    }
-    if r.at == 0 {
-        return ended;
-    }
-    false
+    !r.going || r.at == 0 && ended
 }
 
-// Behind the reading of what is held, whose first byte stands at a place on the tape. Where no print was read, a read comes next.
-pub fn go_further(p: Place, at: u64, r: Reading, block: &mut [u8]) -> Stepped
+// Behind the reading of what is held, whose first byte stands at a place on the tape: over, or where the next step begins. Where
+// no print was read, a read comes next.
+fn go_further(p: Place, at: u64, r: Reading, block: &mut [u8]) -> Stepped
     requires { (p.at + r.at ≤ p.have) × (p.have ≤ length block.old) × (r.going ≡ true → at + r.at ≤ 9999999999) }
     ensures { Further p at r block.old block.new result }
 {
-    let count = r.written;
+    let last = Stepped {
+        standing: Standing { place: p, at },
+        count: r.written,
+        over: true,
+    };
     if is_over(r, p.ended) {
-        return Stepped {
-            standing: Standing { place: p, at: at },
-            count: count,
-            over: true,
-        };
+        return last;
     }
-    let n = r.at;
-    let place = feed_input::go_on(p, n, n == 0, block);
-    let next = at + n as u64;
+    let place = feed_input::go_on(p, r.at, r.at == 0, block);
+    let next = at + r.at as u64;
     Stepped {
-        standing: Standing {
-            place: place,
-            at: next,
-        },
-        count: count,
+        standing: Standing { place, at: next },
         over: false,
+        ..last
     }
 }
 
-// The answer of a read, where one was asked for; then the prints of what is held, as many as may be told
-// and as there is room for. A failed read ends it: nothing more is told.
+// The answer of a read, where one was asked for; then the prints of what is held, as many as may be told and as there is room for.
+// A failed read ends it: nothing more is told.
+pub fn step_telling<T: TellPrint>(
+    s: Standing,
+    answer: Result<usize, ReadFailed>,
+    block: &mut [u8],
+    lines: &mut [u8],
+) -> Stepped
+    ensures { Steps T.line T.MOST s answer block.old lines.old block.new lines.new result }
+{
+    let p = feed_input::take_in(s.place, answer, block.len());
+    if p.failed {
+        return Stepped {
+            standing: Standing { place: p, at: s.at },
+            count: 0,
+            over: true,
+        };
+    }
+    let r = read_tape::tell_prints::<T>(&block[p.at..p.have], s.at, p.ended, lines);
+    go_further(p, s.at, r, block)
+}
+
 pub fn step(
     s: Standing,
     answer: Result<usize, ReadFailed>,
@@ -86,18 +97,5 @@ pub fn step(
 ) -> Stepped
     ensures { Steps place_line 21 s answer block.old lines.old block.new lines.new result }
 {
-    let place = s.place;
-    let from = s.at;
-    let p = feed_input::take_in(place, answer, block.len());
-    if p.failed {
-        return Stepped {
-            standing: Standing { place: p, at: from },
-            count: 0,
-            over: true,
-        };
-    }
-    let at = p.at;
-    let have = p.have;
-    let r = read_tape::read_block(&block[at..have], from, p.ended, lines);
-    go_further(p, from, r, block)
+    step_telling::<PlaceLines>(s, answer, block, lines)
 }

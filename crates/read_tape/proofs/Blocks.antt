@@ -2,11 +2,11 @@
 use Prim.Native.Nat.{ℕ, zero, suc, ◌+◌, ◌-◌, ◌≤◌, ◌<◌}
 use native.Mathlib.Omega.{arith}
 use mathlib.Core.Path.{◌≡◌, refl, sym, ap, ◌∙◌}
-use mathlib.Core.Bool.{Bool, true, false, ◌&&◌, not}
+use mathlib.Core.Bool.{Bool, true, false, ◌&&◌}
 use mathlib.Core.List.{List}
 use lib.Dec.{leb}
 use lib.ListN.{length}
-use borrow.Author.Tests.{leb-true, not-true, not-false}
+use borrow.Author.Tests.{leb-true}
 use Rattle.text.specs.Pick.{pick}
 use Rattle.text.proofs.Texts.{and_left, and_right}
 use Rattle.text.proofs.Writing.{written_nothing, length_put}
@@ -113,18 +113,21 @@ module _ (line : Line) (most : ℕ) (block : List ℕ) (place : ℕ) (ended : Bo
   pub here_placed : r.going ≡ true → place + r.at ≤ 9999999999
   here_placed g = h.placed g
 
-  -- as the code has it: `t` is the answer of the test
-  module _ (t : Bool) (tells : t ≡ may_read most (length block - r.at) ended (length lines - r.written)) where
+  pub here_lines : r.written ≤ length lines
+  here_lines = h.lines_in
+
+  -- as the code has it: `t` is the answer of the test, `m` the most bytes
+  module _ (t : Bool) (m : ℕ) (n : m ≡ most) (tells : t ≡ may_read m (length block - r.at) ended (length lines - r.written)) where
     asked : may_read most (length block - h.p.at) ended (length lines₀ - length h.p.text) ≡ t
-    asked = rw (← h.stands.at_is, ← h.lines_same, ← h.stands.lines_are.count_is) (sym tells)
+    asked = rw (← h.stands.at_is, ← h.lines_same, ← h.stands.lines_are.count_is, ← n) (sym tells)
 
     -- too few bytes or no room
-    pub here_stop : not t ≡ true → r.going ≡ true → Stands lines₀ (block_read line most (length lines₀) block place ended) lines r
-    here_stop e g = stops (rw (← h.stands.going_is, g, asked) (not-true t e))
+    pub here_stop : t ≡ false → r.going ≡ true → Stands lines₀ (block_read line most (length lines₀) block place ended) lines r
+    here_stop e g = stops (rw (← h.stands.going_is, g, asked) e)
 
-    module _ (more : not t ≡ false) where
+    module _ (more : t ≡ true) where
       holds : may_read most (length block - r.at) ended (length lines - r.written) ≡ true
-      holds = sym tells ∙ not-false t more
+      holds = rw (← n) (sym tells ∙ more)
 
       pub here_room : most ≤ length lines - r.written
       here_room = may_room most (length block - r.at) (length lines - r.written) ended holds
@@ -160,7 +163,7 @@ module _ (line : Line) (most : ℕ) (block : List ℕ) (place : ℕ) (ended : Bo
               lines_same = lines_length next;
               placed = λ g. omega (arith, next.at_is, on_place line block place h.p (sym next.going_is ∙ g));
               steps = λ g. omega (arith, e, h.steps going, at_on g);
-              onward = sym (from_on line most (length lines₀) block place ended h.p k (rw (← h.stands.going_is, going, asked) (not-false t more))) ∙ (ap (λ j. block_from line most j (length lines₀) block place ended h.p) (sym e) ∙ h.onward);
+              onward = sym (from_on line most (length lines₀) block place ended h.p k (rw (← h.stands.going_is, going, asked) more)) ∙ (ap (λ j. block_from line most j (length lines₀) block place ended h.p) (sym e) ∙ h.onward);
             }
 
         -- one print more

@@ -1,11 +1,16 @@
-// A block of a tape to the lines of the reader's program (document 01, "Reader"): place and length of each print, gathered in
-// a lent block.
+// A block of a tape to lines, one a print (document 01, "Reader"), gathered in a lent block; `TellPrint` says what is told of a
+// print.
+//
+//     tell_prints  the lines of a block's prints
+//     read_block   of the reader's program: place and length of each print
 #![tactic(auto)]
 
-ghost use Rattle.std.specs.Prelude.{◌≡◌, ◌&&◌, ◌+◌, ◌-◌, ◌≤◌, leb, length};
+ghost use Rattle.std.specs.Prelude.{◌≡◌, ℕ, ◌&&◌, ◌+◌, ◌-◌, ◌≤◌, leb, length, drop};
 ghost use Rattle.text.specs.Put.{Written};
 ghost use Rattle.rules.specs.Sizes.{longest_print};
-ghost use Rattle.read_tape.specs.Tape.{line_of, place_line};
+ghost use Rattle.reader.specs.Read.{read_at};
+ghost use Rattle.reader.specs.Told.{length_of};
+ghost use Rattle.read_tape.specs.Tape.{Line, line_of, place_line};
 ghost use Rattle.read_tape.specs.Block.{may_read, block_read, Stands, Steps};
 
 use rules::LONGEST_PRINT;
@@ -21,6 +26,82 @@ pub struct Reading {
 
 // ---- one print
 
+// The bytes of a print, 0 at a refusal, and of its line.
+#[derive(Clone, Copy)]
+pub struct Told {
+    pub print: usize,
+    pub line: usize,
+}
+
+// What is told of a print: a line of at most so many bytes.
+pub trait TellPrint {
+    const MOST: usize;
+
+    ghost MOST: { ℕ };
+
+    ghost line: { Line };
+
+    // The print at `at` of a block, whose place on the tape is `place`: its line to the front of the lent memory.
+    fn tell(block: &[u8], at: usize, place: u64, rest: &mut [u8]) -> Told
+        requires { (at ≤ length block.now) × (place ≤ 9999999999) × (MOST ≤ length rest.old) }
+        ensures print { result.print ≡ length_of (read_at block.now at) }
+        ensures told { Written (line place (drop at block.now)) rest.old rest.new result.line };
+}
+
+// Behind a print of n bytes at a place.
+#[tactic(auto)]
+fn goes_on(place: u64, n: u64) -> bool
+    requires { (place ≤ 9999999999) × (n ≤ longest_print) }
+    ensures { result ≡ leb 1 n && leb (place + n) 9999999999 }
+{
+    1 <= n && place + n <= 9999999999
+}
+
+// The print where the reading stands; the block begins at a place of the tape.
+fn tell_print<T: TellPrint>(block: &[u8], place: u64, r: Reading, lines: &mut [u8]) -> Reading
+    requires { (r.at ≤ length block.now) × (place + r.at ≤ 9999999999) × (r.written ≤ length lines.old) × (T.MOST ≤ length lines.old - r.written) }
+    ensures { Steps T.line block.now place lines.old r lines.new result }
+{
+    let here = place + r.at as u64;
+    let told = T::tell(block, r.at, here, &mut lines[r.written..]);
+    Reading {
+        at: r.at + told.print,
+        written: r.written + told.line,
+        going: goes_on(here, told.print as u64),
+    }
+}
+
+// ---- a block
+
+// Bytes are left, enough of them to tell the print, and there is room for a line of the most bytes.
+#[tactic(auto, unfolding(crate::specs::Block::may_read))]
+fn may_read(left: usize, ended: bool, room: usize, most: usize) -> bool
+    ensures { result ≡ may_read most left ended room }
+{
+    1 <= left && most <= room && (ended || LONGEST_PRINT <= left)
+}
+
+// Each print of the block, as long as LONGEST_PRINT bytes of it are left, or any where the tape ends with it, and room for a line of
+// the most bytes.
+pub fn tell_prints<T: TellPrint>(block: &[u8], place: u64, ended: bool, lines: &mut [u8]) -> Reading
+    ensures { Stands lines.old (block_read T.line T.MOST (length lines.old) block.now place ended) lines.new result }
+{
+    let mut r = Reading {
+        at: 0,
+        written: 0,
+        going: place <= 9999999999,
+    };
+    while r.going && may_read(block.len() - r.at, ended, lines.len() - r.written, T::MOST) {
+        r = tell_print::<T>(block, place, r, lines);
+    }
+    r
+}
+
+// ---- the reader's program
+
+// Place and length, right-justified in ten columns each, and a line feed.
+pub struct PlaceLines;
+
 fn write_line(rest: &mut [u8], place: u64, n: u64) -> usize
     requires { length (line_of place n) ≤ length rest.old }
     ensures { Written (line_of place n) rest.old rest.new result }
@@ -30,68 +111,24 @@ fn write_line(rest: &mut [u8], place: u64, n: u64) -> usize
     b + text::write_bytes(&mut rest[b..], b"\n")
 }
 
-// Behind a print of n bytes at a place.
-pub fn goes_on(place: u64, n: u64) -> bool
-    requires { (place ≤ 9999999999) × (n ≤ longest_print) }
-    ensures { result ≡ leb 1 n && leb (place + n) 9999999999 }
-{
-    if n < 1 {
-        return false;
-    }
-    place + n <= 9999999999
-}
+impl TellPrint for PlaceLines {
+    const MOST: usize = 21;
 
-// The print where the reading stands; the block begins at a place of the tape.
-fn read_print(block: &[u8], place: u64, r: Reading, lines: &mut [u8]) -> Reading
-    requires { (r.at ≤ length block.now) × (place + r.at ≤ 9999999999) × (21 ≤ length lines.old - r.written) }
-    ensures { Steps place_line block.now place lines.old r lines.new result }
-{
-    let at = r.at;
-    let from = r.written;
-    let here = place + at as u64;
-    let n = reader::length_of(reader::read_at(block, at));
-    let count = n as u64;
-    let k = write_line(&mut lines[from..], here, count);
-    Reading {
-        at: at + n,
-        written: from + k,
-        going: goes_on(here, count),
+    ghost MOST = { 21 };
+
+    ghost line = { place_line };
+
+    fn tell(block: &[u8], at: usize, place: u64, rest: &mut [u8]) -> Told {
+        let print = reader::length_of(reader::read_at(block, at));
+        Told {
+            print,
+            line: write_line(rest, place, print as u64),
+        }
     }
 }
 
-// ---- a block
-
-// Bytes are left, enough of them to tell the print, and there is room for a line of the most bytes.
-pub fn may_read(left: usize, ended: bool, room: usize, most: usize) -> bool
-    ensures { result ≡ may_read most left ended room }
-{
-    if left < 1 {
-        return false;
-    }
-    if room < most {
-        return false;
-    }
-    if ended {
-        return true;
-    }
-    LONGEST_PRINT <= left
-}
-
-// Each print of the block, as long as LONGEST_PRINT bytes of it are left, or any where the tape ends with it, and 21 bytes of the lent
-// lines.
 pub fn read_block(block: &[u8], place: u64, ended: bool, lines: &mut [u8]) -> Reading
     ensures { Stands lines.old (block_read place_line 21 (length lines.old) block.now place ended) lines.new result }
 {
-    let mut r = Reading {
-        at: 0,
-        written: 0,
-        going: place <= 9999999999,
-    };
-    while r.going {
-        if !may_read(block.len() - r.at, ended, lines.len() - r.written, 21) {
-            return r;
-        }
-        r = read_print(block, place, r, lines);
-    }
-    r
+    tell_prints::<PlaceLines>(block, place, ended, lines)
 }
