@@ -1,67 +1,10 @@
 // The reader's program (document 01, "Reader"): a tape on standard input, place and length of each print on standard output.
-// `read_step` decides; here is read and written, and no more.
+// `read_run` reads and writes, `read_step` decides.
 #![tactic(auto)]
 
-ghost use Rattle.std.specs.Prelude.{length};
-ghost use Rattle.feed_input.specs.Place.{Within};
-ghost use Rattle.read_tape.specs.Tape.{place_line};
-ghost use Rattle.read_step.specs.Session.{Turn};
-
-use feed_trouble::TROUBLE_ROOM;
-use read_step::{Standing, Stepped};
+use read_tape::PlaceLines;
 use std::env::{Env, FillError};
-use std::io::{Read, Write};
-
-// A read or a write failed: one line says so.
-fn say_trouble<E: Write>(errors: &mut E, reading: bool, at: u64) {
-    let mut line = [0u8; TROUBLE_ROOM];
-    let n = feed_trouble::write_trouble(&mut line, b"read", reading, b"place ", at);
-    let _ = errors.write_all(&line[..n]);
-}
-
-// One turn: a read, where one is asked for, and a step.
-fn turn<R: Read>(input: &mut R, s: Standing, block: &mut [u8], lines: &mut [u8]) -> Stepped
-    requires { Within s.place (length block.old) }
-    ensures { Turn place_line 21 s block.old lines.old block.new lines.new result }
-{
-    let place = s.place;
-    let answer = feed_refill::read_input(input, place, block);
-    read_step::step(s, answer, block, lines)
-}
-
-// The last turn: silent, unless a read failed.
-fn close<E: Write>(errors: &mut E, s: Standing) {
-    let place = s.place;
-    if place.failed {
-        say_trouble(errors, true, s.at);
-    }
-}
-
-fn run<R: Read, W: Write, E: Write>(
-    input: &mut R,
-    out: &mut W,
-    errors: &mut E,
-    block: &mut [u8],
-    lines: &mut [u8],
-) {
-    let mut s = read_step::started();
-    let mut turns = u64::MAX;
-    while 0 < turns {
-        let r = turn(input, s, block, lines);
-        let n = r.count;
-        if out.write_all(&lines[..n]).is_err() {
-            say_trouble(errors, false, s.at);
-            return;
-        }
-        let next = r.standing;
-        if r.over {
-            close(errors, next);
-            return;
-        }
-        s = next;
-        turns -= 1;
-    }
-}
+use std::io::Write;
 
 fn main(rt: HostRuntime) {
     let mut errors = rt.stderr();
@@ -71,10 +14,11 @@ fn main(rt: HostRuntime) {
     }
     let mut block = [0u8; 262144];
     let mut lines = [0u8; 65536];
-    run(
+    read_run::run::<PlaceLines, _, _, _>(
         &mut rt.stdin(),
         &mut rt.stdout(),
         &mut errors,
+        b"read",
         &mut block,
         &mut lines,
     );
