@@ -21,6 +21,7 @@ fn tape_name(n: u8) -> [u8; 7]
 }
 
 // Writes the line of a place, and answers whether all of it was taken.
+#[tactic(auto, using(crate::proofs::Laws::line_room, text::proofs::Parts::front))]
 fn show_print<W: Write>(out: &mut W, tape: &[u8], place: usize, line: &mut [u8]) -> bool
     requires { (length tape.now ≤ 8192) × ((place < length tape.now) × (8704 ≤ length line.old)) }
     ensures { IsTrue result → Appends (W.contents out.old) (W.contents out.new) (told_line tape.now place) }
@@ -30,36 +31,22 @@ fn show_print<W: Write>(out: &mut W, tape: &[u8], place: usize, line: &mut [u8])
 }
 
 // The prints of a tape from its front, up to its end or a refusal.
+#[tactic(auto, using(crate::proofs::Laws::next_place, crate::proofs::Laws::next_fits, crate::proofs::Laws::less_left))]
 fn show_tape<W: Write>(out: &mut W, tape: &[u8], line: &mut [u8; 8704]) -> bool
     requires { length tape.now ≤ 8192 }
 {
-    let mut place: usize = 0;
+    let mut place = 0;
     while place < tape.len() {
         if !show_print(out, tape, place, line) {
             return false;
         }
-        let answer = reader::read_at(tape, place);
-        let n = reader::length_of(answer);
+        let n = reader::length_of(reader::read_at(tape, place));
         if n == 0 {
             return true;
         }
         place += n;
     }
     true
-}
-
-// Those of the tape that the block's first n bytes are.
-fn show_front<W: Write>(out: &mut W, block: &[u8], n: usize, line: &mut [u8; 8704]) -> bool
-    requires { (n ≤ 8192) × (n ≤ length block.now) }
-{
-    show_tape(out, &block[..n], line)
-}
-
-// Reads a tape into the block and answers its length, 0 where it cannot be opened.
-fn read_tape<F: Files>(files: &F, path: &[u8], block: &mut [u8; 8192]) -> usize
-    ensures { result ≤ 8192 }
-{
-    feed_refill::read_file(files, path, block)
 }
 
 // Reads a tape and shows its prints; answers false where it cannot be opened or its lines cannot be written.
@@ -70,11 +57,8 @@ fn run_file<F: Files, W: Write>(
     block: &mut [u8; 8192],
     line: &mut [u8; 8704],
 ) -> bool {
-    let n = read_tape(files, path, block);
-    if n == 0 {
-        return false;
-    }
-    show_front(out, block, n, line)
+    let n = feed_refill::read_file(files, path, block);
+    n != 0 && show_tape(out, &block[..n], line)
 }
 
 // Tapes 01 to 44, up to the first that fails.
@@ -82,12 +66,9 @@ fn main(rt: HostRuntime) {
     let mut out = rt.stdout();
     let mut block = [0u8; 8192];
     let mut line = [0u8; 8704];
-    let mut n: u8 = 1;
-    while n <= 44 {
-        let name = tape_name(n);
-        if !run_file(&rt, &mut out, &name, &mut block, &mut line) {
+    for n in 1..=44 {
+        if !run_file(&rt, &mut out, &tape_name(n), &mut block, &mut line) {
             return;
         }
-        n += 1;
     }
 }
