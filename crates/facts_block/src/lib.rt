@@ -1,82 +1,49 @@
 // A block of day lines to the lines of its shown facts: each line goes to the engine as a part of the block, and the line of
-// its entry is gathered in a lent block. A call is lent a tape of LONGEST_PRINT bytes.
+// its entry is gathered in a lent block (feed_gather, `Tell`).
 #![tactic(auto)]
 
-ghost use Rattle.std.specs.Prelude.{◌≡◌, [], ◌∷◌, ◌+◌, ◌-◌, ◌≤◌, length, take, drop};
-ghost use Rattle.feed_gather.specs.Gather.{last_line, started, room_left, lines_taken, block_taken, Stands, Tells, Steps};
-ghost use Rattle.facts_block.specs.Shows.{facts_program, fact_room};
+ghost use Rattle.std.specs.Prelude.{[], ◌∷◌, length};
+ghost use Rattle.feed_gather.specs.Gather.{started, lines_taken, block_taken, Stands};
+ghost use Rattle.facts_block.specs.Shows.{facts_program, fact_room, told_facts};
 
 use call_table::{Names, Table};
-use feed_gather::{Fed, Told};
+use feed_gather::{Fed, Tell, Told};
 use rules::{LONGEST_PRINT, Settings};
 
-// Any line of shown facts has room in it.
-pub const FACT_ROOM: usize = 186 + LONGEST_PRINT;
+// What `factlines` tells of a line: its shown facts, without its number.
+pub struct Facts;
 
-// One call, and the line of its entry at the start of `rest`; it does not tell its number.
-fn take_shown(
-    st: Settings,
-    table: &mut Table,
-    names: &mut Names,
-    line: &[u8],
-    rest: &mut [u8],
-) -> Told
-    requires { fact_room ≤ length rest.old }
-    ensures { Tells facts_program st table.old names.old 0 line.now rest.old table.new names.new rest.new result }
-{
-    // as slices the tables tell their sizes
-    let _rows = &table[..];
-    let _places = &names[..];
-    let mut tape = [0u8; LONGEST_PRINT];
-    let e = facts_entry::entry_of(st, table, names, line, LONGEST_PRINT);
-    let a = engine::take_line(st, table, names, line, &mut tape);
-    let settings = a.settings;
-    let outcome = a.outcome;
-    let n = engine::count_of(outcome);
-    let k = facts_line::write_entry(rest, &tape[..n], e);
-    Told {
-        settings: settings,
-        count: k,
+impl Tell for Facts {
+    const ROOM: usize = 186 + LONGEST_PRINT;
+
+    ghost ROOM = { fact_room };
+
+    ghost text = { told_facts };
+
+    fn take(
+        settings: Settings,
+        _number: u64,
+        table: &mut Table,
+        names: &mut Names,
+        line: &[u8],
+        rest: &mut [u8],
+    ) -> Told {
+        // as slices the tables tell their sizes
+        let _rows = &table[..];
+        let _places = &names[..];
+        let mut tape = [0u8; LONGEST_PRINT];
+        let e = facts_entry::entry_of(settings, table, names, line, LONGEST_PRINT);
+        let a = engine::take_line(settings, table, names, line, &mut tape);
+        let n = engine::count_of(a.outcome);
+        Told {
+            settings: a.settings,
+            count: facts_line::write_entry(rest, &tape[..n], e),
+        }
     }
 }
 
-// The line from where the reading stands up to `end`.
-fn show_line(
-    f: Fed,
-    table: &mut Table,
-    names: &mut Names,
-    block: &[u8],
-    end: usize,
-    facts: &mut [u8],
-) -> Fed
-    requires { (f.at ≤ end) × (end ≤ length block.now) × (fact_room ≤ length facts.old - f.out) × (f.number ≤ last_line) }
-    ensures { Steps facts_program (take (end - f.at) (drop f.at block.now)) table.old names.old facts.old [] f table.new names.new facts.new [] result × (result.at ≡ end + 1) }
-{
-    let next = end + 1;
-    let at = f.at;
-    let n = f.out;
-    let st = f.settings;
-    let t = take_shown(st, table, names, &block[at..end], &mut facts[n..]);
-    let settings = t.settings;
-    Fed {
-        settings: settings,
-        number: f.number + 1,
-        at: next,
-        out: n + t.count,
-        err: f.err,
-    }
-}
-
-// Room for any line of shown facts, and a line number that is not past the last.
-fn room_left(f: Fed, facts: usize) -> bool
-    requires { (f.out ≤ facts) × (f.err ≤ 0) }
-    ensures { result ≡ room_left facts_program facts 0 f.out f.err f.number }
-{
-    feed_gather::room_left(f, facts, 0, FACT_ROOM, 0)
-}
-
-// Each line of the block that a line feed ends, as long as FACT_ROOM bytes are left of the lent facts and the line's number is
-// not past the last.
+// Each line of the block that a line feed ends, as long as any line of shown facts has room in the lent facts, and the line's
+// number is not past the last.
 pub fn show_lines(
     settings: Settings,
     number: u64,
@@ -87,25 +54,7 @@ pub fn show_lines(
 ) -> Fed
     ensures { Stands facts.old [] (block_taken facts_program (length facts.old) 0 block.now (started settings table.old names.old number)) table.new names.new facts.new [] result }
 {
-    let mut f = Fed {
-        settings: settings,
-        number: number,
-        at: 0,
-        out: 0,
-        err: 0,
-    };
-    while f.at < block.len() {
-        let at = f.at;
-        let end = feed_blocks::line_end(block, at);
-        if block.len() <= end {
-            return f;
-        }
-        if !room_left(f, facts.len()) {
-            return f;
-        }
-        f = show_line(f, table, names, block, end, facts);
-    }
-    f
+    feed_gather::take_lines::<Facts>(settings, number, table, names, block, facts, &[])
 }
 
 // One line that no line feed ends.
@@ -119,16 +68,5 @@ pub fn show_last(
 ) -> Fed
     ensures { Stands facts.old [] (lines_taken facts_program (length facts.old) 0 (line.now ∷ []) (started settings table.old names.old number)) table.new names.new facts.new [] result }
 {
-    let f = Fed {
-        settings: settings,
-        number: number,
-        at: 0,
-        out: 0,
-        err: 0,
-    };
-    if !room_left(f, facts.len()) {
-        return f;
-    }
-    let end = line.len();
-    show_line(f, table, names, line, end, facts)
+    feed_gather::take_last::<Facts>(settings, number, table, names, line, facts, &[])
 }

@@ -13,7 +13,7 @@ use Rattle.text.proofs.Texts.{and_left, and_right}
 use Rattle.text.proofs.Writing.{written_nothing, length_put}
 use Rattle.rules.specs.declared.Settings.{Settings}
 use Rattle.feed_blocks.specs.Lines.{line_end, Cut}
-use Rattle.feed_gather.specs.Gather.{last_line, Program, Progress, started, line_taken, room_left, lines_taken, block_taken, lines_from, Stands, Steps, Here}
+use Rattle.feed_gather.specs.Gather.{last_line, Program, Progress, started, nothing_read, line_taken, room_left, lines_taken, block_taken, lines_from, Stands, Steps, Here}
 use Rattle.feed_gather.specs.declared.Fed.{Fed}
 use Rattle.feed_blocks.proofs.Cuts.{cut_none, next_line}
 
@@ -206,11 +206,17 @@ module _ {g : Program} {line out₀ err₀ : List ℕ} {goal : Progress} {table 
     last_on e table' names' out' err' r s past =
         none_ahead (here_next h _ _ (last_then line f.at left) (sym tells ∙ not-false t e) table' names' out' err' r s (ap (lines_from true line) past)) (last_read line r.at (omega arith))
 
--- a last line that is taken at once
-module _ (g : Program) (st : Settings) (line table names out err : List ℕ) (number : ℕ) (t : Bool) (tells : t ≡ room_left g (length out) (length err) 0 0 number) where
-  pub alone_stop : not t ≡ true → Stands out err (last_goal g st line table names out err number) table names out err (record { settings = st; number = number; at = 0; out = 0; err = 0 })
-  alone_stop e = last_stop (last_start g st line table names out err number) (omega arith) tells e
+-- a last line that is taken at once: nothing is read before, `t` is the answer of the test of the room
+module _ (g : Program) (st : Settings) (line table names out err : List ℕ) (number : ℕ) (f : Fed) (is : f ≡ nothing_read st number) (t : Bool) (tells : t ≡ (leb g.out_most (length out - f.out) && (leb g.err_most (length err - f.err) && leb f.number last_line))) where
+  alone : Here g true line out err (last_goal g st line table names out err number) table names out err f
+  alone = rw is (last_start g st line table names out err number)
 
-  pub alone_on : not t ≡ false → (table' names' out' err' : List ℕ) (r : Fed) → Steps g (take (length line - 0) (drop 0 line)) table names out err (record { settings = st; number = number; at = 0; out = 0; err = 0 }) table' names' out' err' r → r.at ≡ length line + 1
+  at_front : f.at ≤ length line
+  at_front = rw is (omega arith)
+
+  pub alone_stop : not t ≡ true → Stands out err (last_goal g st line table names out err number) table names out err f
+  alone_stop e = last_stop alone at_front (room_is g (length out) (length err) f.out f.err f.number t tells) e
+
+  pub alone_on : not t ≡ false → (table' names' out' err' : List ℕ) (r : Fed) → Steps g (take (length line - f.at) (drop f.at line)) table names out err f table' names' out' err' r → r.at ≡ length line + 1
       → Stands out err (last_goal g st line table names out err number) table' names' out' err' r
-  alone_on e table' names' out' err' r s past = last_on (last_start g st line table names out err number) (omega arith) tells e table' names' out' err' r s past
+  alone_on e table' names' out' err' r s past = last_on alone at_front (room_is g (length out) (length err) f.out f.err f.number t tells) e table' names' out' err' r s past

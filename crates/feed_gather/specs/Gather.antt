@@ -2,6 +2,7 @@
 use Rattle.std.specs.Prelude.{ℕ, ◌+◌, ◌-◌, ◌≡◌, Bool, true, false, ◌&&◌, List, [], ◌∷◌, ◌++◌, leb, ltb, length, drop}
 use Rattle.text.specs.Pick.{pick}
 use Rattle.text.specs.Put.{Written}
+use Rattle.rules.specs.Sizes.{longest_print}
 use Rattle.rules.specs.Day.{Call}
 use Rattle.rules.specs.declared.Settings.{Settings}
 use Rattle.call_plan.specs.declared.Plan.{Plan}
@@ -25,6 +26,14 @@ pub record Program : Type 0 where
   pub out_most : ℕ
   pub err_most : ℕ
 
+-- what is told of a line on standard output
+abbrev pub Text : Type 0
+Text = Settings → List ℕ → List ℕ → ℕ → Call → List ℕ
+
+-- the program that tells `text` of a line, for which `room` bytes are enough, on standard output alone; each call is lent a tape of `longest_print` bytes
+abbrev pub telling : ℕ → Text → Program
+telling room text = record { lent = λ left. longest_print; out = text; err = λ st table names number c. []; out_most = room; err_most = 0 }
+
 -- where the reading of a block stands: the engine's state, the number of the next line, the bytes that are read, and what was told so far, each joined in order
 pub record Progress : Type 0 where
   pub settings : Settings
@@ -37,6 +46,10 @@ pub record Progress : Type 0 where
 
 abbrev pub started : Settings → List ℕ → List ℕ → ℕ → Progress
 started st table names number = record { settings = st; table = table; names = names; number = number; at = 0; out = []; err = [] }
+
+-- the same as the code has it
+abbrev pub nothing_read : Settings → ℕ → Fed
+nothing_read st number = record { settings = st; number = number; at = 0; out = 0; err = 0 }
 
 -- ---- one line
 
