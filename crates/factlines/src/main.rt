@@ -1,94 +1,10 @@
-// The facts program: day lines on standard input, the lines of their shown facts on standard output. It reads, steps and writes;
-// what a step does, facts_step says.
+// The facts program: day lines on standard input, the lines of their shown facts on standard output. What a step does, feed_step
+// says, and what of its lines, facts_block.
 #![tactic(auto)]
 
-ghost use Rattle.std.specs.Prelude.{[], ◌≤◌, length, IsTrue, take};
-ghost use Rattle.std.specs.Io.KnownBytes.{Appends};
-ghost use Rattle.feed_input.specs.Place.{Within};
-ghost use Rattle.feed_step.specs.Session.{Turned};
-ghost use Rattle.facts_block.specs.Shows.{facts_program};
-
-use call_table::{NAMES_SIZE, Names, TABLE_SIZE, Table};
-use feed_step::{Standing, Stepped};
-use feed_trouble::TROUBLE_ROOM;
+use facts_block::Facts;
 use std::env::{Env, FillError};
-use std::io::{Read, Write};
-
-// One turn: a read, where one is asked for, and a step.
-fn turn<R: Read>(
-    input: &mut R,
-    s: Standing,
-    table: &mut Table,
-    names: &mut Names,
-    block: &mut [u8],
-    facts: &mut [u8],
-) -> Stepped
-    requires { Within s.place (length block.old) }
-    ensures { Turned facts_program s table.old names.old block.old facts.old [] table.new names.new block.new facts.new [] result }
-{
-    let place = s.place;
-    let answer = feed_refill::read_input(input, place, block);
-    facts_step::step(s, answer, table, names, block, facts)
-}
-
-// A read or a write failed, after so many lines of the input.
-fn say_trouble<E: Write>(errors: &mut E, reading: bool, after: u64) {
-    let mut line = [0u8; TROUBLE_ROOM];
-    let n = feed_trouble::write_trouble(&mut line, b"factlines", reading, b"line ", after);
-    let _ = errors.write_all(&line[..n]);
-}
-
-// Writes what a turn told, and answers whether standard output took all of it.
-fn write_out<W: Write, E: Write>(
-    out: &mut W,
-    errors: &mut E,
-    facts: &[u8],
-    n: usize,
-    after: u64,
-) -> bool
-    requires { n ≤ length facts.now }
-    ensures { IsTrue result → Appends (W.contents out.old) (W.contents out.new) (take n facts.now) }
-{
-    if out.write_all(&facts[..n]).is_err() {
-        say_trouble(errors, false, after);
-        return false;
-    }
-    true
-}
-
-// After the last turn.
-fn say_end<E: Write>(errors: &mut E, s: Standing) {
-    let place = s.place;
-    if place.failed {
-        say_trouble(errors, true, feed_step::lines_taken(s));
-    }
-}
-
-// Turns until a step is the last, or a write fails.
-fn run<R: Read, W: Write, E: Write>(
-    input: &mut R,
-    out: &mut W,
-    errors: &mut E,
-    table: &mut Table,
-    names: &mut Names,
-    block: &mut [u8],
-    facts: &mut [u8],
-) {
-    let mut s = feed_step::started();
-    let mut turns = u64::MAX;
-    while 0 < turns {
-        let r = turn(input, s, table, names, block, facts);
-        if !write_out(out, errors, facts, r.out, feed_step::lines_taken(s)) {
-            return;
-        }
-        s = r.standing;
-        if r.over {
-            say_end(errors, s);
-            return;
-        }
-        turns -= 1;
-    }
-}
+use std::io::Write;
 
 fn main(rt: HostRuntime) {
     let mut errors = rt.stderr();
@@ -96,17 +12,13 @@ fn main(rt: HostRuntime) {
         let _ = errors.write_all(b"usage: factlines < day-file > facts\n");
         return;
     }
-    let mut table = [0u64; TABLE_SIZE];
-    let mut names = [0u8; NAMES_SIZE];
-    let mut block = [0u8; 262144];
-    let mut facts = [0u8; 65536];
-    run(
+    feed_run::run::<Facts, _, _, _>(
         &mut rt.stdin(),
         &mut rt.stdout(),
         &mut errors,
-        &mut table,
-        &mut names,
-        &mut block,
-        &mut facts,
+        b"factlines",
+        &mut [0u8; 262144],
+        &mut [0u8; 65536],
+        &mut [],
     );
 }

@@ -1,13 +1,14 @@
 -- A program's step, put together. Assumes nothing.
 use Prim.Native.Nat.{ℕ, ◌+◌, ◌-◌, ◌≤◌}
 use native.Mathlib.Omega.{arith}
+use mathlib.Core.Logic.{◌⊎◌, inl, inr}
 use mathlib.Core.Path.{◌≡◌, refl, ap, ◌∙◌}
 use mathlib.Core.Bool.{Bool}
 use mathlib.Core.List.{List, [], ◌∷◌}
 use lib.ListN.{length, take, drop, length-drop}
 use lib.Seq.{take_all}
 use Rattle.rules.specs.declared.Settings.{Settings}
-use Rattle.feed_gather.specs.Gather.{Program, Progress, started, lines_taken, block_taken, Stands}
+use Rattle.feed_gather.specs.Gather.{Program, Progress, started, nothing_read, lines_taken, block_taken, Stands}
 use Rattle.feed_gather.specs.declared.Fed.{Fed}
 use Rattle.feed_gather.proofs.Within.{block_within}
 use Rattle.text.specs.Put.{Written}
@@ -115,16 +116,14 @@ module _ (g : Program) (st : Settings) (table names u out err : List ℕ) (numbe
   unfolding taken_by
   by_line from used e table' names' out' err' f s = rw (e, ← take_all (length u - from) (drop from u) (omega (arith, length-drop from u))) s
 
-  nothing : Stands out err (started st table names number) table names out err (record { settings = st; number = number; at = 0; out = 0; err = 0 })
+  nothing : Stands out err (started st table names number) table names out err (nothing_read st number)
   nothing = record { settings_is = refl; number_is = refl; at_is = refl; table_is = refl; names_is = refl; out_is = written_nothing out; err_is = written_nothing err }
 
-  pub by_pass : (used : ℕ) → w ≡ Pass used → Stands out err goal table names out err (record { settings = st; number = number; at = 0; out = 0; err = 0 })
+  -- a way that takes none
+  pub by_none : (((used : ℕ) × (w ≡ Pass used)) ⊎ (w ≡ Stop)) → (f : Fed) → f ≡ nothing_read st number → Stands out err goal table names out err f
   unfolding taken_by
-  by_pass used e = rw e nothing
-
-  pub by_stop : w ≡ Stop → Stands out err goal table names out err (record { settings = st; number = number; at = 0; out = 0; err = 0 })
-  unfolding taken_by
-  by_stop e = rw e nothing
+  by_none (inl (used, e)) f is = rw (is, e) nothing
+  by_none (inr e) f is = rw (is, e) nothing
 
 -- the line's place is in what is held
 pub line_in : (w : Way) (from used n : ℕ) → w ≡ Line from used → from_by w ≤ n → from ≤ n

@@ -1,6 +1,0 @@
-use Rattle.std.proofs.Common.{arith}
-use Rattle.feed_trouble.proofs.Short.{trouble_short}
-use Rattle.day.proofs.say_trouble.Goals as goal
-
-pub write_trouble-n-requires : goal.write_trouble-n-requires
-write_trouble-n-requires g c = trouble_short _ _ _ _ (omega arith) (omega arith) (omega (arith, c.ranges.after.fits))

@@ -1,5 +1,0 @@
-use Rattle.feed_step.proofs.Turns.{turned}
-use Rattle.day.proofs.turn.Goals as goal
-
-pub returns : goal.returns
-returns g c = search turned
