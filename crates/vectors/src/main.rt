@@ -3,7 +3,7 @@
 // facts. A day file is shorter than 65,536 bytes.
 #![tactic(auto)]
 
-ghost use Rattle.std.specs.Prelude.{◌≡◌, ◌≤◌, ◌<◌, length, take, [], IsTrue, ◌++◌, ◌∷◌};
+ghost use Rattle.std.specs.Prelude.{◌≡◌, ◌≤◌, ◌<◌, length, [], IsTrue, ◌++◌, ◌∷◌};
 ghost use Rattle.std.specs.Io.KnownBytes.{Appends};
 ghost use Rattle.rules.specs.Day.{opened};
 ghost use Rattle.feed_gather.specs.Gather.{started, block_taken, Stands};
@@ -29,13 +29,7 @@ fn closed(block: &mut [u8; 65536], n: usize) -> usize
     requires { n ≤ 65536 }
     ensures { result ≤ 65536 }
 {
-    if n == 0 {
-        return 0;
-    }
-    if n == 65536 {
-        return n;
-    }
-    if block[n - 1] == b'\n' {
+    if n == 0 || n == 65536 || block[n - 1] == b'\n' {
         return n;
     }
     block[n] = b'\n';
@@ -52,70 +46,29 @@ fn take_day(
 ) -> Fed
     ensures { Stands tape.old refusals.old (block_taken day_program (length tape.old) (length refusals.old) day.now (started (opened 0) table.old names.old 1)) table.new names.new tape.new refusals.new result }
 {
-    let settings = engine::fresh();
-    feed_lines::feed(settings, 1, table, names, day, tape, refusals)
+    feed_lines::feed(engine::fresh(), 1, table, names, day, tape, refusals)
 }
 
 // Writes what was gathered, and answers whether all of it was taken.
-fn write_out<W: Write>(out: &mut W, tape: &[u8], n: usize, refusals: &[u8], k: usize) -> bool
-    requires { (n ≤ length tape.now) × (k ≤ length refusals.now) }
-    ensures { IsTrue result → Appends (W.contents out.old) (W.contents out.new) (take n tape.now ++ 10 ∷ take k refusals.now) }
+fn write_out<W: Write>(out: &mut W, tape: &[u8], refusals: &[u8]) -> bool
+    ensures { IsTrue result → Appends (W.contents out.old) (W.contents out.new) (tape.now ++ 10 ∷ refusals.now) }
 {
-    if out.write_all(&tape[..n]).is_err() {
-        return false;
-    }
-    if out.write_all(b"\n").is_err() {
-        return false;
-    }
-    out.write_all(&refusals[..k]).is_ok()
-}
-
-// Takes the day that the block's first n bytes are, and writes what comes out.
-fn show_day<W: Write>(
-    out: &mut W,
-    table: &mut Table,
-    names: &mut Names,
-    block: &[u8],
-    n: usize,
-    tape: &mut [u8],
-    refusals: &mut [u8],
-) -> bool
-    requires { n ≤ length block.now }
-{
-    let f = take_day(table, names, &block[..n], tape, refusals);
-    write_out(out, tape, f.out, refusals, f.err)
+    out.write_all(tape).is_ok() && out.write_all(b"\n").is_ok() && out.write_all(refusals).is_ok()
 }
 
 // The lines of the day's shown facts, from a fresh state.
 fn take_facts(table: &mut Table, names: &mut Names, day: &[u8], facts: &mut [u8]) -> Fed
     ensures { Stands facts.old [] (block_taken facts_program (length facts.old) 0 day.now (started (opened 0) table.old names.old 1)) table.new names.new facts.new [] result }
 {
-    let settings = engine::fresh();
-    facts_block::show_lines(settings, 1, table, names, day, facts)
-}
-
-// Writes them, of the day that the block's first n bytes are.
-fn show_facts<W: Write>(
-    out: &mut W,
-    table: &mut Table,
-    names: &mut Names,
-    block: &[u8],
-    n: usize,
-    facts: &mut [u8],
-) -> bool
-    requires { n ≤ length block.now }
-{
-    let s = take_facts(table, names, &block[..n], facts);
-    let k = s.out;
-    out.write_all(&facts[..k]).is_ok()
+    facts_block::show_lines(engine::fresh(), 1, table, names, day, facts)
 }
 
 // Reads a day file into the block and answers its length, 0 where it cannot be opened.
 fn read_day<F: Files>(files: &F, path: &[u8], block: &mut [u8; 65536]) -> usize
     ensures { result ≤ 65536 }
 {
-    let got = feed_refill::read_file(files, path, block);
-    closed(block, got)
+    let n = feed_refill::read_file(files, path, block);
+    closed(block, n)
 }
 
 // Reads a day file and shows its day; answers false where it cannot be opened or what comes out cannot be written.
@@ -133,7 +86,8 @@ fn run_file<F: Files, W: Write>(
     if n == 0 {
         return false;
     }
-    show_day(out, table, names, block, n, tape, refusals)
+    let f = take_day(table, names, &block[..n], tape, refusals);
+    write_out(out, &tape[..f.out], &refusals[..f.err])
 }
 
 // The same of its shown facts.
@@ -150,7 +104,8 @@ fn run_facts<F: Files, W: Write>(
     if n == 0 {
         return false;
     }
-    show_facts(out, table, names, block, n, facts)
+    let f = take_facts(table, names, &block[..n], facts);
+    out.write_all(&facts[..f.out]).is_ok()
 }
 
 // Days 01 to 16, up to the first that fails.
@@ -163,8 +118,7 @@ fn run_numbered<F: Files, W: Write>(
     tape: &mut [u8; 65536],
     refusals: &mut [u8; 65536],
 ) -> bool {
-    let mut n: u8 = 1;
-    while n <= 16 {
+    for n in 1..=16u8 {
         let name = day_name(n);
         if !run_file(files, out, &name, table, names, block, tape, refusals) {
             return false;
@@ -172,7 +126,6 @@ fn run_numbered<F: Files, W: Write>(
         if !run_facts(files, out, &name, table, names, block, tape) {
             return false;
         }
-        n += 1;
     }
     true
 }
@@ -195,24 +148,16 @@ fn main(rt: HostRuntime) {
     ) {
         return;
     }
-    run_file(
-        &rt,
-        &mut out,
-        b"trades.day",
-        &mut table,
-        &mut names,
-        &mut block,
-        &mut tape,
-        &mut refusals,
-    );
-    run_file(
-        &rt,
-        &mut out,
-        b"corrections.day",
-        &mut table,
-        &mut names,
-        &mut block,
-        &mut tape,
-        &mut refusals,
-    );
+    for path in [b"trades.day" as &[u8], b"corrections.day"] {
+        run_file(
+            &rt,
+            &mut out,
+            path,
+            &mut table,
+            &mut names,
+            &mut block,
+            &mut tape,
+            &mut refusals,
+        );
+    }
 }
