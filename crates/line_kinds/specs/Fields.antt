@@ -1,15 +1,15 @@
 -- A line's answers as functions of what its fields hold, each field read once. Assumes nothing.
-use Rattle.std.specs.Prelude.{ℕ, Bool, ◌&&◌, not, List}
+use Rattle.std.specs.Prelude.{ℕ, Bool, ◌&&◌, not, List, Result, Ok, Err}
 use Rattle.text.specs.Pick.{pick}
 use Rattle.rules.specs.Columns.{column, is_number}
 use Rattle.rules.specs.Line.{is_market, is_security_number, trade_formed, trade_ranged, trade_of, correction_formed, correction_ranged, correction_of, is_shaped, is_kind, is_formed, is_ranged, line_of}
 use Rattle.rules.specs.declared.Number.{Number}
 use Rattle.rules.specs.declared.Parsed.{Parsed}
-use Rattle.rules.specs.declared.Line.TheVariants.{Traded, Cancelled, Erred, Corrected}
+use Rattle.rules.specs.declared.Line.{Line}
+use Rattle.rules.specs.declared.Refusal.{Refusal}
+use Rattle.rules.specs.declared.Line.TheVariants.{Corrected}
 use Rattle.rules.specs.declared.Refusal.TheVariants.{Shape, Kind, Form, Value}
 use Rattle.line_kinds.specs.declared.TradeRead.{TradeRead}
-use Rattle.line_kinds.specs.declared.Reading.{Reading}
-use Rattle.line_kinds.specs.declared.Reading.TheVariants.{Refused, Taken}
 
 -- ---- T, X, E and C lines: the side, and what follows it
 
@@ -24,24 +24,18 @@ trade_read line = record { formed = trade_formed line; ranged = trade_ranged lin
 
 -- ---- the line of each kind, as `of_kind` has it
 
-abbrev pub traded_read : List ℕ → Parsed
-traded_read line = record { formed = trade_formed line; ranged = trade_ranged line; line = Traded (trade_of line) }
-
-abbrev pub cancelled_read : List ℕ → Parsed
-cancelled_read line = record { formed = trade_formed line; ranged = trade_ranged line; line = Cancelled (trade_of line) }
-
-abbrev pub erred_read : List ℕ → Parsed
-erred_read line = record { formed = trade_formed line; ranged = trade_ranged line; line = Erred (trade_of line) }
+abbrev pub said_by : TradeRead → Line → Parsed
+said_by read line = record { formed = read.formed; ranged = read.ranged; line = line }
 
 abbrev pub corrected_read : List ℕ → Parsed
 corrected_read line = record { formed = correction_formed line; ranged = correction_ranged line; line = Corrected (correction_of line) }
 
 -- ---- any bytes, of any length: refusals 1, 2, 4 and 5 in that order, or the line
 
-unfoldable pub reading_of : List ℕ → Reading
+unfoldable pub reading_of : List ℕ → Result Line Refusal
 reading_of line =
-    pick (not (is_shaped line)) (Refused Shape)
-    (pick (not (is_kind (column 1 line))) (Refused Kind)
-    (pick (not (is_formed line)) (Refused Form)
-    (pick (not (is_ranged line)) (Refused Value)
-    (Taken (line_of line)))))
+    pick (not (is_shaped line)) (Err Shape)
+    (pick (not (is_kind (column 1 line))) (Err Kind)
+    (pick (not (is_formed line)) (Err Form)
+    (pick (not (is_ranged line)) (Err Value)
+    (Ok (line_of line)))))

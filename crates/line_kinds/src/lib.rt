@@ -6,7 +6,7 @@ ghost use Rattle.std.specs.Prelude.{◌≡◌, length};
 ghost use Rattle.rules.specs.Sizes.{width};
 ghost use Rattle.rules.specs.Columns.{column};
 ghost use Rattle.rules.specs.Line.{of_kind};
-ghost use Rattle.line_kinds.specs.Fields.{trade_formed_by, trade_ranged_by, trade_read, traded_read, cancelled_read, erred_read, corrected_read, reading_of};
+ghost use Rattle.line_kinds.specs.Fields.{trade_formed_by, trade_ranged_by, trade_read, said_by, corrected_read, reading_of};
 
 use rules::{
     Correction, FIRST_SIDE, Line, Number, Parsed, Refusal, SECOND_SIDE, SIDES_END, Trade, WIDTH,
@@ -20,41 +20,38 @@ pub struct TradeRead {
     pub trade: Trade,
 }
 
-// What a line is by itself: refused by number 1, 2, 4 or 5, or taken.
-#[derive(Clone, Copy)]
-pub enum Reading {
-    Refused(Refusal),
-    Taken(Line),
+impl TradeRead {
+    // As a line of one of the three kinds.
+    fn said(self, line: Line) -> Parsed
+        ensures { result ≡ said_by self line }
+    {
+        Parsed {
+            formed: self.formed,
+            ranged: self.ranged,
+            line,
+        }
+    }
 }
 
 // ---- T, X, E and C
 
 // `side` and `rest`: the side, and what follows it, are in their form.
+#[tactic(auto, unfolding(crate::specs::Fields::trade_formed_by))]
 fn trade_formed(security: Number, market: u8, side: bool, rest: bool) -> bool
     ensures { result ≡ trade_formed_by security market side rest }
 {
-    if !line_numbers::is_number(security) {
-        return false;
-    }
-    if !line_fields::is_market(market) {
-        return false;
-    }
-    if !side {
-        return false;
-    }
-    rest
+    line_numbers::is_number(security) && line_fields::is_market(market) && side && rest
 }
 
+#[tactic(auto, unfolding(crate::specs::Fields::trade_ranged_by))]
 fn trade_ranged(security: u64, sides: bool) -> bool
     ensures { result ≡ trade_ranged_by security sides }
 {
-    if !line_numbers::is_security_number(security) {
-        return false;
-    }
-    sides
+    line_numbers::is_security_number(security) && sides
 }
 
 // The fields of a T, X or E line.
+#[tactic(auto, unfolding(crate::specs::Fields::trade_formed_by, crate::specs::Fields::trade_ranged_by, crate::specs::Fields::trade_read, rules::specs::Line::trade_formed, rules::specs::Line::trade_ranged, rules::specs::Line::trade_of, line_side::specs::Side::side_read))]
 pub fn read_trade(line: &[u8]) -> TradeRead
     requires { length line.now ≡ width }
     ensures { result ≡ trade_read line.now }
@@ -64,61 +61,21 @@ pub fn read_trade(line: &[u8]) -> TradeRead
     let read = line_side::read_side(&line[FIRST_SIDE..SECOND_SIDE]);
     let blank = line_fields::is_blank_rest(&line[SECOND_SIDE..WIDTH]);
     let security = line_numbers::value_of(number);
-    let side = read.side;
-    let trade = Trade {
-        security: security,
-        market: text::wide(market),
-        side: side,
-        lawful: read.lawful,
-        matched: read.matched,
-    };
     TradeRead {
         formed: trade_formed(number, market, read.formed, blank),
         ranged: trade_ranged(security, read.ranged),
-        trade: trade,
-    }
-}
-
-fn read_traded(line: &[u8]) -> Parsed
-    requires { length line.now ≡ width }
-    ensures { result ≡ traded_read line.now }
-{
-    let read = read_trade(line);
-    let trade = read.trade;
-    Parsed {
-        formed: read.formed,
-        ranged: read.ranged,
-        line: Line::Traded(trade),
-    }
-}
-
-fn read_cancelled(line: &[u8]) -> Parsed
-    requires { length line.now ≡ width }
-    ensures { result ≡ cancelled_read line.now }
-{
-    let read = read_trade(line);
-    let trade = read.trade;
-    Parsed {
-        formed: read.formed,
-        ranged: read.ranged,
-        line: Line::Cancelled(trade),
-    }
-}
-
-fn read_erred(line: &[u8]) -> Parsed
-    requires { length line.now ≡ width }
-    ensures { result ≡ erred_read line.now }
-{
-    let read = read_trade(line);
-    let trade = read.trade;
-    Parsed {
-        formed: read.formed,
-        ranged: read.ranged,
-        line: Line::Erred(trade),
+        trade: Trade {
+            security,
+            market: u64::from(market),
+            side: read.side,
+            lawful: read.lawful,
+            matched: read.matched,
+        },
     }
 }
 
 // A C line: each side is handed to the reader as a part that starts in the line's middle.
+#[tactic(auto, unfolding(crate::specs::Fields::trade_formed_by, crate::specs::Fields::trade_ranged_by, rules::specs::Line::correction_formed, rules::specs::Line::correction_ranged, rules::specs::Line::correction_of, line_side::specs::Side::side_read))]
 fn read_correction(line: &[u8]) -> Parsed
     requires { length line.now ≡ width }
     ensures { result ≡ corrected_read line.now }
@@ -129,83 +86,67 @@ fn read_correction(line: &[u8]) -> Parsed
     let second = line_side::read_side(&line[SECOND_SIDE..SIDES_END]);
     let blank = line_fields::is_blank_part(&line[SIDES_END..WIDTH]);
     let security = line_numbers::value_of(number);
-    let original = first.side;
-    let correcting = second.side;
-    let correction = Correction {
-        security: security,
-        market: text::wide(market),
-        original: original,
-        correcting: correcting,
-        lawful: line_side::both(first.lawful, second.lawful),
-        matched: line_side::both(first.matched, second.matched),
-    };
     Parsed {
-        formed: trade_formed(
-            number,
-            market,
-            first.formed,
-            line_side::both(second.formed, blank),
-        ),
-        ranged: trade_ranged(security, line_side::both(first.ranged, second.ranged)),
-        line: Line::Corrected(correction),
+        formed: trade_formed(number, market, first.formed, second.formed && blank),
+        ranged: trade_ranged(security, first.ranged && second.ranged),
+        line: Line::Corrected(Correction {
+            security,
+            market: u64::from(market),
+            original: first.side,
+            correcting: second.side,
+            lawful: first.lawful && second.lawful,
+            matched: first.matched && second.matched,
+        }),
     }
 }
 
 // ---- any line
 
 // A line of a known kind.
+#[tactic(auto, unfolding(rules::specs::Line::of_kind, text::specs::Pick::pick, crate::specs::Fields::trade_read))]
 pub fn read_kind(line: &[u8]) -> Parsed
     requires { length line.now ≡ width }
     ensures { result ≡ of_kind (column 1 line.now) line.now }
 {
-    let kind = line[0];
-    if kind == b'D' {
-        return line_setup::read_date(line);
+    match line[0] {
+        b'D' => line_setup::read_date(line),
+        b'S' => line_setup::read_listing(line),
+        b'M' => line_setup::read_mode(line),
+        b'V' => line_setup::read_level(line),
+        b'P' => line_setup::read_step(line),
+        b'T' => {
+            let read = read_trade(line);
+            read.said(Line::Traded(read.trade))
+        }
+        b'X' => {
+            let read = read_trade(line);
+            read.said(Line::Cancelled(read.trade))
+        }
+        b'E' => {
+            let read = read_trade(line);
+            read.said(Line::Erred(read.trade))
+        }
+        _ => read_correction(line),
     }
-    if kind == b'S' {
-        return line_setup::read_listing(line);
-    }
-    if kind == b'M' {
-        return line_setup::read_mode(line);
-    }
-    if kind == b'V' {
-        return line_setup::read_level(line);
-    }
-    if kind == b'P' {
-        return line_setup::read_step(line);
-    }
-    if kind == b'T' {
-        return read_traded(line);
-    }
-    if kind == b'X' {
-        return read_cancelled(line);
-    }
-    if kind == b'E' {
-        return read_erred(line);
-    }
-    read_correction(line)
 }
 
 // Refusals 1, 2, 4 and 5 in their order, or the line.
-pub fn read_line(line: &[u8]) -> Reading
+#[tactic(auto, unfolding(crate::specs::Fields::reading_of, rules::specs::Line::is_shaped, rules::specs::Line::is_formed, rules::specs::Line::is_ranged, rules::specs::Line::line_of, text::specs::Pick::pick))]
+pub fn read_line(line: &[u8]) -> Result<Line, Refusal>
     ensures { result ≡ reading_of line.now }
 {
-    if line.len() != WIDTH {
-        return Reading::Refused(Refusal::Shape);
-    }
-    if !line_fields::is_printable_text(line) {
-        return Reading::Refused(Refusal::Shape);
+    if line.len() != WIDTH || !line_fields::is_printable_text(line) {
+        return Err(Refusal::Shape);
     }
     if !line_fields::is_kind(line[0]) {
-        return Reading::Refused(Refusal::Kind);
+        return Err(Refusal::Kind);
     }
     let parsed = read_kind(line);
     if !parsed.formed {
-        return Reading::Refused(Refusal::Form);
+        return Err(Refusal::Form);
     }
     if !parsed.ranged {
-        return Reading::Refused(Refusal::Value);
+        return Err(Refusal::Value);
     }
-    let value = parsed.line;
-    Reading::Taken(value)
+    Ok(parsed.line)
 }
