@@ -4,6 +4,8 @@ use native.Mathlib.Omega.{arith}
 use mathlib.Core.Path.{◌≡◌, refl, sym, ap, ◌∙◌}
 use mathlib.Core.Bool.{Bool, true, false, ◌&&◌, not}
 use mathlib.Core.List.{List, [], ◌∷◌}
+use Rattle.std.specs.Prelude.{Option, Some, IfSome}
+use Rattle.std.proofs.lemmas.Option.{IfSome_then}
 use lib.ListN.{length, get_or, take, drop, length-take, length-drop}
 use lib.Seq.{drop-cons, drop-drop}
 use lib.Dec.{leb, eqb}
@@ -23,7 +25,7 @@ use Rattle.rules.specs.Line.{is_printable, is_shaped, is_market, is_price, is_se
 use Rattle.rules.specs.Sizes.{width}
 use Rattle.line_trade.specs.declared.TradeLine.{TradeLine}
 use Rattle.line_letters.proofs.Letters.{lawful_none, lawful_one}
-use Rattle.line_trade.specs.TradeLine.{is_good, no_line, line_in, trade_line}
+use Rattle.line_trade.specs.TradeLine.{is_good, line_in, trade_line}
 use Rattle.line_trade.specs.Quick.{Placed, security_worth, volume_worth, n_worth, d_worth, short_side, quick_line, QuickValues}
 use Rattle.line_trade.proofs.Printable.{printable_blank, printable_number, printable_letters, printable_market, printable_kind, one_then, part_then, part_last}
 
@@ -122,7 +124,7 @@ module _ (line : List ℕ) (l : length line ≡ width) (t : get_or line 0 0 ≡ 
   unfolding is_good
   line_good = rw (line_shaped, eq-eqb (get_or line 0 0) 84 t, line_formed, line_ranged, line_trade)
 
-  line_read : quick_line line (letters_in (letters_field (first_side line))) ≡ trade_line line
+  line_read : trade_line line ≡ Some (quick_line line (letters_in (letters_field (first_side line))))
   unfolding quick_line trade_line line_in short_side pick
   line_read = rw (line_good, line_trade)
 
@@ -153,14 +155,14 @@ unfolding is_security_number between
 security_from_one n h = leb-true 1 n (and_left (leb 1 n) _ h)
 
 values_are : (line : List ℕ) (letters : Letters) (v a n x w : ℕ) → v ≡ security_worth line → a ≡ volume_worth line → n ≡ n_worth line → x ≡ get_or line 5 0 → w ≡ get_or line 29 0
-    → (record { good = true; security = v; market = x; volume = a; n = n; d = w - 48; letters = letters; days = 0; m = 0; e = 0 }) ≡ quick_line line letters
+    → (record { security = v; market = x; volume = a; n = n; d = w - 48; letters = letters; days = 0; m = 0; e = 0 }) ≡ quick_line line letters
 unfolding quick_line
 values_are line letters v a n x w ev ea en ex ew = rw (ev, ea, en, ex, ew)
 
 module _ (line : List ℕ) (letters : Letters) (m s q : Bool) (v a n w x : ℕ) where
   pub values_read : 48 ≤ get_or line 29 0 → get_or line 29 0 ≤ 56 → m ≡ is_market (get_or line 5 0) → not m ≡ false → v ≡ worth_of 0 (take 4 (drop 1 line)) → s ≡ is_security_number v → not s ≡ false
       → a ≡ worth_of 0 (take 9 (drop 6 line)) → 1 ≤ a → n ≡ worth_of 0 (take 14 (drop 15 line)) → w ≡ get_or line 29 0 → q ≡ is_price n (w - 48) → not q ≡ false → x ≡ get_or line 5 0
-      → QuickValues line letters (record { good = true; security = v; market = x; volume = a; n = n; d = w - 48; letters = letters; days = 0; m = 0; e = 0 })
+      → QuickValues line letters (record { security = v; market = x; volume = a; n = n; d = w - 48; letters = letters; days = 0; m = 0; e = 0 })
   values_read lo hi em nm ev es ns ea sa en ew eq nq ex = record {
     is = values_are line letters v a n x w ev ea en ex ew;
     place = rw (← ev) (sym es ∙ not-false s ns);
@@ -195,22 +197,19 @@ module _ (fs ms line : List ℕ) (f : formed fs ms (get_or (take 33 line) 0 0) (
   n_stands : stands true (take 14 (drop 15 line)) ≡ true
   n_stands = stand_at 14 14 (omega arith) (and_right (placed true 9 (drop 5 fs) (drop 5 ms)) _ later_tables)
 
-pub all_placed : (fs ms line : List ℕ) (f b g : Bool) → f ≡ formed fs ms (get_or (take 33 line) 0 0) (drop 1 (take 33 line)) → not f ≡ false → tabled fs ms ≡ true → b ≡ blank (take 64 (drop 36 line)) → not b ≡ false → g ≡ blank (take 2 (drop 34 line)) → g ≡ true → Placed line
-all_placed fs ms line f b g ef nf t eb nb eg h =
-    let k = sym ef ∙ not-false f nf in
+pub all_placed : (fs ms line : List ℕ) (f b g : Bool) → f ≡ formed fs ms (get_or (take 33 line) 0 0) (drop 1 (take 33 line)) → f ≡ true → tabled fs ms ≡ true → b ≡ blank (take 64 (drop 36 line)) → b ≡ true → g ≡ blank (take 2 (drop 34 line)) → g ≡ true → Placed line
+all_placed fs ms line f b g ef f_yes t eb b_yes eg h =
+    let k = sym ef ∙ f_yes in
     record {
       security = security_stands fs ms line k t;
       volume = volume_stands fs ms line k t;
       n = n_stands fs ms line k t;
       next = sym eg ∙ h;
-      rest = sym eb ∙ not-false b nb;
+      rest = sym eb ∙ b_yes;
     }
 
 pub placed_told : (line : List ℕ) (a : Bool) → (a ≡ true → Placed line) → not a ≡ false → Placed line
 placed_told line a h k = h (not-false a k)
-
-pub not_placed : (line : List ℕ) → false ≡ true → Placed line
-not_placed line h = let q : ◌≡◌ {A = ℕ} 0 1 = cc in absurd (omega arith)
 
 -- blanks from column 35 on, of the line's side
 side_rest : (line : List ℕ) → blank (take 2 (drop 34 line)) ≡ true → blank (take 64 (drop 36 line)) ≡ true → blank (take 18 (drop 28 (first_side line))) ≡ true
@@ -247,8 +246,8 @@ module _ (line : List ℕ) (x : Letters) (p : TradeLine) (at : Placed line) (o :
     rest = rw (drop-drop 16 36 line) at (blank_part 48 16 64 (drop 36 line) (omega arith) at.rest);
   }
 
-  quick_is : length line ≡ width → get_or line 0 0 ≡ 84 → p ≡ trade_line line
-  quick_is l t = v.is ∙ (ap (quick_line line) (ex ∙ ap letters_in (sym letters_same)) ∙ line_read line l t short_line)
+  quick_is : length line ≡ width → get_or line 0 0 ≡ 84 → trade_line line ≡ Some p
+  quick_is l t = line_read line l t short_line ∙ ap Some (sym (v.is ∙ ap (quick_line line) (ex ∙ ap letters_in (sym letters_same))))
 
 -- one letter at most is lawful by itself
 lawful_short : (field : List ℕ) → length field ≡ 4 → get_or field 1 0 ≡ 32 → lawful_letters field ≡ true
@@ -271,25 +270,7 @@ module _ (line : List ℕ) (l : length line ≡ width) (b : Bool) (eb : b ≡ (e
   pub two_columns : 1 < length (take 4 (drop 30 line))
   two_columns = omega (arith, field_length)
 
-  pub quick_read : (a : Bool) (x : Letters) (p : TradeLine) → (a ≡ true → Placed line) → not a ≡ false → x ≡ letters_in (take 4 (drop 30 line)) → x.r ≡ false → x.g ≡ false
-      → (p.good ≡ true → QuickValues line x p) → get_or line 0 0 ≡ 84 → p.good ≡ true → p ≡ trade_line line
-  quick_read a x p f na ex nr nx v k h =
-      quick_is line x p (f (not-false a na)) (and_right (eqb (get_or (take 4 (drop 30 line)) 1 0) 32) _ both) (lawful_short _ field_length second_blank) ex nr nx (v h) l k
-
--- ---- the letters
-
-pub not_short : (field : List ℕ) → (get_or field 1 0 ≡ 32 → ⊥) → false ≡ (eqb (get_or field 1 0) 32 && letters_formed field)
-not_short field h = rw (ne_eqb (get_or field 1 0) 32 h)
-
-pub short_by : (field : List ℕ) (b : Bool) → get_or field 1 0 ≡ 32 → b ≡ letters_formed field → b ≡ (eqb (get_or field 1 0) 32 && letters_formed field)
-short_by field b h e = rw (eq-eqb (get_or field 1 0) 32 h) e
-
--- ---- what is not read
-
-pub no_values : (line : List ℕ) (x : Letters) (r : TradeLine) → r ≡ no_line → r.good ≡ true → QuickValues line x r
-unfolding no_line
-no_values line x r e h = let z : ◌≡◌ {A = Bool} false true = ap (λ q. q.good) (sym e) ∙ h in let q : ◌≡◌ {A = ℕ} 0 1 = cc in absurd (omega arith)
-
-pub no_quick : (line : List ℕ) (r : TradeLine) → r ≡ no_line → r.good ≡ true → r ≡ trade_line line
-unfolding no_line
-no_quick line r e h = let z : ◌≡◌ {A = Bool} false true = ap (λ q. q.good) (sym e) ∙ h in let q : ◌≡◌ {A = ℕ} 0 1 = cc in absurd (omega arith)
+  pub quick_read : (a : Bool) (x : Letters) (p : Option TradeLine) → (a ≡ true → Placed line) → not a ≡ false → x ≡ letters_in (take 4 (drop 30 line)) → x.r ≡ false → x.g ≡ false
+      → IfSome p (QuickValues line x) → get_or line 0 0 ≡ 84 → IfSome p (λ t. trade_line line ≡ Some t)
+  quick_read a x p f na ex nr nx v k =
+      IfSome_then p v (λ t w. quick_is line x t (f (not-false a na)) (and_right (eqb (get_or (take 4 (drop 30 line)) 1 0) 32) _ both) (lawful_short _ field_length second_blank) ex nr nx w l k)

@@ -36,7 +36,6 @@ short_side volume n d letters = record { volume = volume; price = record { n = n
 -- the line with these letters, by what its other columns are worth
 unfoldable pub quick_line : List ℕ → Letters → TradeLine
 quick_line line letters = record {
-  good = true;
   security = security_worth line;
   market = column 6 line;
   volume = volume_worth line;

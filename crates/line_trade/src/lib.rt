@@ -1,19 +1,20 @@
 // A T line read by itself: all that can be said of it without the day's state.
 #![tactic(auto)]
 
-ghost use Rattle.std.specs.Prelude.{◌≡◌, true, ◌&&◌, length, get_or, eqb};
+ghost use Rattle.std.specs.Prelude.{◌≡◌, true, ◌&&◌, length, get_or, eqb, Some, IfSome};
 ghost use Rattle.rules.specs.Sizes.{width};
 ghost use Rattle.rules.specs.Conditions.{letters_formed};
-ghost use Rattle.line_trade.specs.TradeLine.{no_line, trade_line};
+ghost use Rattle.line_trade.specs.TradeLine.{good_fields, trade_line};
 ghost use Rattle.line_trade.specs.Quick.{Placed, volume_worth, n_worth, QuickValues};
 
+use line_kinds::TradeRead;
 use rules::{Letters, WIDTH};
 
 // A T line that nothing but the day's state can stop: its security and market, then its side: volume, price n over ten to the
-// power d, letters, days, previous last m over ten to the power e. `good` is false for every other line, and all else is 0 then.
+// power d, letters, days, previous last m over ten to the power e.
+// Kept: the side's numbers one by one, since a `Side` in the record is slower.
 #[derive(Clone, Copy)]
 pub struct TradeLine {
-    pub good: bool,
     pub security: u64,
     pub market: u64,
     pub volume: u64,
@@ -25,37 +26,6 @@ pub struct TradeLine {
     pub e: u64,
 }
 
-fn nothing() -> TradeLine
-    ensures { result ≡ no_line }
-{
-    let letters = Letters {
-        o: false,
-        s: false,
-        l: false,
-        n: false,
-        m: false,
-        c: false,
-        k: false,
-        b: false,
-        t: false,
-        r: false,
-        j: false,
-        g: false,
-    };
-    TradeLine {
-        good: false,
-        security: 0,
-        market: 0,
-        volume: 0,
-        n: 0,
-        d: 0,
-        letters: letters,
-        days: 0,
-        m: 0,
-        e: 0,
-    }
-}
-
 // ---- all columns at once
 
 // Most volumes have six digits at most: where column 9 is a blank, so are those before it.
@@ -64,9 +34,10 @@ fn volume_in(line: &[u8]) -> u64
     ensures { result ≡ volume_worth line.now }
 {
     if line[8] == b' ' {
-        return line_columns::worth(&line[9..15]);
+        line_columns::worth(&line[9..15])
+    } else {
+        line_columns::worth(&line[6..15])
     }
-    line_columns::worth(&line[6..15])
 }
 
 // Most n have eight digits at most.
@@ -75,52 +46,49 @@ fn n_in(line: &[u8]) -> u64
     ensures { result ≡ n_worth line.now }
 {
     if line[20] == b' ' {
-        return line_columns::worth(&line[21..29]);
+        line_columns::worth(&line[21..29])
+    } else {
+        line_columns::worth(&line[15..29])
     }
-    line_columns::worth(&line[15..29])
 }
 
 // Security, market, volume and price by what their columns are worth, each within its values.
-fn read_values(line: &[u8], letters: Letters) -> TradeLine
+fn read_values(line: &[u8], letters: Letters) -> Option<TradeLine>
     requires { (length line.now ≡ width) × Placed line.now }
-    ensures { result.good ≡ true → QuickValues line.now letters result }
+    ensures { IfSome result (QuickValues line.now letters) }
 {
     let c = line[29];
-    if c < b'0' {
-        return nothing();
-    }
-    if b'8' < c {
-        return nothing();
+    if c < b'0' || b'8' < c {
+        return None;
     }
     let market = line[5];
     if !line_fields::is_market(market) {
-        return nothing();
+        return None;
     }
     let security = line_columns::worth(&line[1..5]);
     if !line_numbers::is_security_number(security) {
-        return nothing();
+        return None;
     }
     let volume = volume_in(line);
     if volume < 1 {
-        return nothing();
+        return None;
     }
     let n = n_in(line);
-    let d = text::wide(c) - 48;
+    let d = u64::from(c) - 48;
     if !line_numbers::is_price(n, d) {
-        return nothing();
+        return None;
     }
-    TradeLine {
-        good: true,
-        security: security,
-        market: text::wide(market),
-        volume: volume,
-        n: n,
-        d: d,
-        letters: letters,
+    Some(TradeLine {
+        security,
+        market: u64::from(market),
+        volume,
+        n,
+        d,
+        letters,
         days: 0,
         m: 0,
         e: 0,
-    }
+    })
 }
 
 // Security in columns 2 to 5, volume in 7 to 15, n in 16 to 29, each where it belongs; blanks from 35 on. Of the other columns
@@ -131,13 +99,9 @@ fn is_placed(line: &[u8]) -> bool
 {
     let front = b" ~~~~ ~~~~~~~~ ~~~~~~~~~~~~~~   ";
     let most = b"9999~999999999999999999999999~~~";
-    if !line_columns::is_formed(front, most, &line[0..33]) {
-        return false;
-    }
-    if !line_fields::is_blank_part(&line[36..WIDTH]) {
-        return false;
-    }
-    line_fields::is_blank_part(&line[34..36])
+    line_columns::is_formed(front, most, &line[0..33])
+        && line_fields::is_blank_part(&line[36..WIDTH])
+        && line_fields::is_blank_part(&line[34..36])
 }
 
 // One letter at most, in its form.
@@ -145,87 +109,72 @@ fn is_short(field: &[u8]) -> bool
     requires { length field.now ≡ 4 }
     ensures { result ≡ (eqb (get_or field.now 1 0) 32 && letters_formed field.now) }
 {
-    if field[1] != b' ' {
-        return false;
-    }
-    line_letters::letters_formed(field)
+    field[1] == b' ' && line_letters::letters_formed(field)
 }
 
 // One letter at most. Days and previous last are blank here: R and G, which ask for them, are left to `read_fields`.
-fn read_quick(line: &[u8]) -> TradeLine
+fn read_quick(line: &[u8]) -> Option<TradeLine>
     requires { (length line.now ≡ width) × (get_or line.now 0 0 ≡ 84) }
-    ensures { result.good ≡ true → result ≡ trade_line line.now }
+    ensures { IfSome result (λ t. trade_line line.now ≡ Some t) }
 {
-    if !is_placed(line) {
-        return nothing();
-    }
-    if !is_short(&line[30..34]) {
-        return nothing();
+    if !is_placed(line) || !is_short(&line[30..34]) {
+        return None;
     }
     let letters = line_letters::first_letter(&line[30..34]);
-    if letters.r {
-        return nothing();
-    }
-    if letters.g {
-        return nothing();
+    if letters.r || letters.g {
+        return None;
     }
     read_values(line, letters)
 }
 
 // ---- any T line
 
+// Its fields in their form, within their values, lawful and matched.
+#[tactic(auto, unfolding(crate::specs::TradeLine::good_fields))]
+fn is_good(read: TradeRead) -> bool
+    ensures { result ≡ good_fields read }
+{
+    read.formed && read.ranged && read.trade.lawful && read.trade.matched
+}
+
 // Field by field.
-fn read_fields(line: &[u8]) -> TradeLine
+#[tactic(auto, unfolding(crate::specs::TradeLine::trade_line, crate::specs::TradeLine::is_good, crate::specs::TradeLine::good_fields, crate::specs::TradeLine::line_in, line_kinds::specs::Fields::trade_read, rules::specs::Line::is_shaped, text::specs::Pick::pick))]
+fn read_fields(line: &[u8]) -> Option<TradeLine>
     requires { (length line.now ≡ width) × (get_or line.now 0 0 ≡ 84) }
     ensures { result ≡ trade_line line.now }
 {
     if !line_fields::is_printable_text(line) {
-        return nothing();
+        return None;
     }
     let read = line_kinds::read_trade(line);
-    if !read.formed {
-        return nothing();
-    }
-    if !read.ranged {
-        return nothing();
+    if !is_good(read) {
+        return None;
     }
     let trade = read.trade;
-    if !trade.lawful {
-        return nothing();
-    }
-    if !trade.matched {
-        return nothing();
-    }
     let side = trade.side;
-    let price = side.price;
-    let letters = side.letters;
-    let previous = side.previous;
-    TradeLine {
-        good: true,
+    Some(TradeLine {
         security: trade.security,
         market: trade.market,
         volume: side.volume,
-        n: price.n,
-        d: price.d,
-        letters: letters,
+        n: side.price.n,
+        d: side.price.d,
+        letters: side.letters,
         days: side.days,
-        m: previous.n,
-        e: previous.d,
-    }
+        m: side.previous.n,
+        e: side.previous.d,
+    })
 }
 
 // Any bytes of any length. What the quick reading leaves is read field by field.
-pub fn read_trade_line(line: &[u8]) -> TradeLine
+#[tactic(auto, using(crate::proofs::Lines::quick_good), unfolding(crate::specs::TradeLine::trade_line, crate::specs::TradeLine::is_good, rules::specs::Line::is_shaped, text::specs::Pick::pick))]
+pub fn read_trade_line(line: &[u8]) -> Option<TradeLine>
     ensures { result ≡ trade_line line.now }
 {
-    if line.len() != WIDTH {
-        return nothing();
-    }
-    if line[0] != b'T' {
-        return nothing();
+    if line.len() != WIDTH || line[0] != b'T' {
+        return None;
     }
     let quick = read_quick(line);
-    if quick.good {
+    if quick.is_some() {
         return quick;
     }
     read_fields(line)
