@@ -4,6 +4,7 @@ use native.Mathlib.Omega.{arith}
 use mathlib.Core.Path.{◌≡◌, refl, sym, ap, ◌∙◌}
 use mathlib.Core.Bool.{Bool, true, false, not}
 use mathlib.Core.List.{List, []}
+use Rattle.std.specs.Prelude.{Option, Some, None}
 use lib.Dec.{eqb, leb}
 use lib.ListN.{length, get_or}
 use borrow.Author.Tests.{le-leb, leb-true, not-true, not-false}
@@ -16,8 +17,7 @@ use Rattle.rules.specs.declared.Security.{Security}
 use Rattle.rules.specs.Names.{name_text}
 use Rattle.rules.specs.Price.{whole_part, units, form_by}
 use Rattle.rules.specs.Conditions.{has_rule, on_network}
-use Rattle.rules.specs.Qualifying.{for_neither, for_range_only, for_range, for_last}
-use Rattle.rules.specs.declared.Letters.{Letters}
+use Rattle.rules.specs.Qualifying.{for_range, for_last}
 use Rattle.rules.specs.Side.{side_text}
 use Rattle.rules.specs.Day.{shows_temporary}
 use Rattle.rules.specs.Trade.{prints_trade, after_trade}
@@ -32,25 +32,17 @@ use Rattle.line_trade.specs.declared.TradeLine.{TradeLine}
 use Rattle.line_trade.specs.TradeLine.{no_letters, side_in}
 use Rattle.decide_trade.specs.Value.{prints_by, full_by, shows_by, after_by}
 use Rattle.decide_trade.proofs.Value.{side_prints, side_form, side_shows, side_after}
-use Rattle.call_trade.specs.declared.TradeAnswer.{TradeAnswer}
-use Rattle.call_trade.specs.Traded.{trade_text, untaken_of, Decided, Fitted, Carried}
+use Rattle.call_trade.specs.Traded.{trade_text, Decided, Fitted, Carried}
 use Rattle.rules.specs.declared.PriceForm.{PriceForm}
 
 -- ---- room
 
-pub untaken_is : record { taken = false; length = 0 } ≡ untaken_of
-unfolding untaken_of
-untaken_is = refl
-
 -- no side is longer than `longest_print` bytes
-pub room_any : (room : ℕ) (name : List ℕ) (temporary : Bool) (network unit : ℕ) (form : PriceForm) (shows : Bool) (x : Side) → OwedSide x → longest_print ≤ room → true ≡ leb (length (side_text (name_text temporary name) network unit form shows x)) room
-room_any room name temporary network unit form shows x h l = sym (le-leb _ room (omega (arith, side_short x h (name_text temporary name) network unit form shows, name_most temporary name)))
+pub room_any : (room : ℕ) (name : List ℕ) (temporary : Bool) (network unit : ℕ) (form : PriceForm) (shows : Bool) (x : Side) → OwedSide x → longest_print ≤ room → leb longest_print room ≡ leb (length (side_text (name_text temporary name) network unit form shows x)) room
+room_any room name temporary network unit form shows x h l = le-leb longest_print room l ∙ sym (le-leb _ room (omega (arith, side_short x h (name_text temporary name) network unit form shows, name_most temporary name)))
 
 pub fits : (n room : ℕ) (q : Bool) → q ≡ leb n room → not q ≡ false → n ≤ room
 fits n room q e h = leb-true n room (sym e ∙ not-false q h)
-
-pub room_by : (room k : ℕ) (t : List ℕ) → k ≡ length t → leb k room ≡ leb (length t) room
-room_by room k t e = rw e
 
 -- ---- the decision, with values as callees answered them
 
@@ -68,14 +60,13 @@ module _ (st : Settings) (s : Security) (market : ℕ) (x : Side) (value : ℕ) 
   unfolding trade_text opt
   no_text name h = rw (sym prints_is ∙ not-true prints h)
 
-  pub left_off : (names : List ℕ) (place : ℕ) (table tape table' : List ℕ) → not prints ≡ true → table' ≡ with_row table place after → Fitted st s (name_of names place) place market x table tape table' tape (record { taken = true; length = 0 })
+  pub left_off : (names : List ℕ) (place : ℕ) (table tape table' : List ℕ) → not prints ≡ true → table' ≡ with_row table place after → Fitted st s (name_of names place) place market x table tape table' tape (Some 0)
   left_off names place table tape table' h e = record {
     taken_is = rw (no_text (name_of names place) h) (sym (le-leb 0 (length tape) (omega arith)));
     stored = λ t. e ∙ ap (with_row table place) after_is;
-    printed = λ t. rw (no_text (name_of names place) h) (written_nothing tape);
+    printed = rw (no_text (name_of names place) h) (written_nothing tape);
     untouched = λ t. absurd (let y : ◌≡◌ {A = ℕ} 0 1 = cc in omega arith);
     unprinted = λ t. absurd (let y : ◌≡◌ {A = ℕ} 0 1 = cc in omega arith);
-    no_length = λ t. refl;
   }
 
 module _ (st : Settings) (s : Security) (names : List ℕ) (place market : ℕ) (x : Side) (table tape : List ℕ) where
@@ -98,48 +89,25 @@ module _ (st : Settings) (s : Security) (names : List ℕ) (place market : ℕ) 
     text_is = rw (d.prints_is, ← n, ← t, ← side_form st s market x (value / 100000000) form whole_is f, ← side_shows st s market x lasts rule shows d.lasts_is d.rule_is w)
 
     module _ (q : Bool) (r : q ≡ leb (length side) (length tape)) where
-      pub no_room : (a : TradeAnswer) → not q ≡ true → a ≡ untaken_of → Fitted st s (name_of names place) place market x table tape table tape a
-      unfolding untaken_of
-      no_room a h e = rw e (record {
+      pub no_room : not q ≡ true → Fitted st s (name_of names place) place market x table tape table tape None
+      no_room h = record {
         taken_is = sym (not-true q h) ∙ (r ∙ ap (λ (z : List ℕ). leb (length z) (length tape)) (sym text_is));
         stored = λ y. absurd (let z : ◌≡◌ {A = ℕ} 0 1 = cc in omega arith);
-        printed = λ y. absurd (let z : ◌≡◌ {A = ℕ} 0 1 = cc in omega arith);
+        printed = tt;
         untouched = λ y. refl;
         unprinted = λ y. refl;
-        no_length = λ y. refl;
-      })
+      }
 
-      pub printed : (table' tape' : List ℕ) (k : ℕ) → not q ≡ false → table' ≡ with_row table place after → Written side tape tape' k → Fitted st s (name_of names place) place market x table tape table' tape' (record { taken = true; length = k })
+      pub printed : (table' tape' : List ℕ) (k : ℕ) → not q ≡ false → table' ≡ with_row table place after → Written side tape tape' k → Fitted st s (name_of names place) place market x table tape table' tape' (Some k)
       printed table' tape' k h e o = record {
         taken_is = sym (not-false q h) ∙ (r ∙ ap (λ (z : List ℕ). leb (length z) (length tape)) (sym text_is));
         stored = λ y. e ∙ ap (with_row table place) d.after_is;
-        printed = λ y. rw text_is o;
+        printed = rw text_is o;
         untouched = λ y. absurd (let z : ◌≡◌ {A = ℕ} 0 1 = cc in omega arith);
         unprinted = λ y. absurd (let z : ◌≡◌ {A = ℕ} 0 1 = cc in omega arith);
-        no_length = λ y. absurd (let z : ◌≡◌ {A = ℕ} 0 1 = cc in omega arith);
       }
 
 -- ---- letters
-
-module _ (marked : Bool) (h : not marked ≡ true) (x : Letters) (f : marked ≡ false → x ≡ no_letters) where
-  none : x ≡ no_letters
-  none = f (not-true marked h)
-
-  pub any_network : (network : ℕ) → true ≡ on_network network x
-  unfolding on_network no_letters
-  any_network network = rw none
-
-  pub any_range : true ≡ for_range x
-  unfolding for_range for_neither no_letters
-  any_range = rw none
-
-  pub any_last : true ≡ for_last x
-  unfolding for_last for_range for_neither for_range_only no_letters
-  any_last = rw none
-
-  pub no_rule : false ≡ has_rule x
-  unfolding has_rule no_letters
-  no_rule = rw none
 
 pub unmarked : (part : List ℕ) (t : TradeLine) (marked : Bool) → SideColumns part (side_in t) → not (eqb (get_or part 24 0) 32) ≡ marked → marked ≡ false → t.letters ≡ no_letters
 unfolding no_letters
@@ -148,23 +116,20 @@ unmarked part t marked c e m = no_letters_lem part (side_in t) c (not-false (eqb
 -- ---- the network, then the room
 
 module _ (st : Settings) (s : Security) (name : List ℕ) (place market : ℕ) (x : Side) (table tape : List ℕ) (q : Bool) (e : q ≡ on_network s.issue.network x.letters) where
-  pub other_network : (a : TradeAnswer) → not q ≡ true → a ≡ untaken_of → Carried st s name place market x table tape table tape a
-  unfolding untaken_of
-  other_network a h u = rw u (record {
+  pub other_network : not q ≡ true → Carried st s name place market x table tape table tape None
+  other_network h = record {
     taken_is = rw (← e, not-true q h);
     stored = λ y. absurd (let z : ◌≡◌ {A = ℕ} 0 1 = cc in omega arith);
-    printed = λ y. absurd (let z : ◌≡◌ {A = ℕ} 0 1 = cc in omega arith);
+    printed = tt;
     untouched = λ y. refl;
     unprinted = λ y. refl;
-    no_length = λ y. refl;
-  })
+  }
 
-  pub carried : (table' tape' : List ℕ) (r : TradeAnswer) → not q ≡ false → Fitted st s name place market x table tape table' tape' r → Carried st s name place market x table tape table' tape' r
+  pub carried : (table' tape' : List ℕ) (r : Option ℕ) → not q ≡ false → Fitted st s name place market x table tape table' tape' r → Carried st s name place market x table tape table' tape' r
   carried table' tape' r h f = record {
     taken_is = rw (← e, not-false q h) f.taken_is;
     stored = f.stored;
     printed = f.printed;
     untouched = f.untouched;
     unprinted = f.unprinted;
-    no_length = f.no_length;
   }

@@ -11,69 +11,44 @@ ghost use Rattle.rules.specs.Qualifying.{for_range, for_last};
 ghost use Rattle.call_table.specs.Rows.{row, name_of};
 ghost use Rattle.line_owed.specs.Owed.{OwedSide, SideColumns};
 ghost use Rattle.line_trade.specs.TradeLine.{no_letters, side_in};
-ghost use Rattle.call_trade.specs.Traded.{untaken_of, Decided, Fitted, Carried};
+ghost use Rattle.call_trade.specs.Traded.{Decided, Fitted, Carried};
 
 use call_table::{Names, Table};
 use line_trade::TradeLine;
 use rules::{LONGEST_PRINT, Letters, Price, PriceForm, Security, Settings, Side};
 
-// Whether the trade was carried out, and the length of its print, 0 where it is left off. It is not where J or G are on the
-// wrong network (10) or its print is longer than the lent tape (13); nothing is done then.
-#[derive(Clone, Copy)]
-pub struct TradeAnswer {
-    pub taken: bool,
-    pub length: usize,
-}
-
-pub fn untaken() -> TradeAnswer
-    ensures { result ≡ untaken_of }
-{
-    TradeAnswer {
-        taken: false,
-        length: 0,
-    }
-}
-
 // ---- letters: nothing is asked of them where none stands in the line (`marked` is false)
 
+#[tactic(auto, unfolding(rules::specs::Conditions::on_network, line_trade::specs::TradeLine::no_letters))]
 fn is_on_network(marked: bool, network: u64, x: Letters) -> bool
     requires { marked ≡ false → x ≡ no_letters }
     ensures { result ≡ on_network network x }
 {
-    if !marked {
-        return true;
-    }
-    decide_letters::on_network(network, x)
+    !marked || decide_letters::on_network(network, x)
 }
 
+#[tactic(auto, unfolding(rules::specs::Qualifying::for_range, rules::specs::Qualifying::for_neither, line_trade::specs::TradeLine::no_letters))]
 fn for_range(marked: bool, x: Letters) -> bool
     requires { marked ≡ false → x ≡ no_letters }
     ensures { result ≡ for_range x }
 {
-    if !marked {
-        return true;
-    }
-    decide_letters::for_range(x)
+    !marked || decide_letters::for_range(x)
 }
 
+#[tactic(auto, unfolding(rules::specs::Qualifying::for_last, rules::specs::Qualifying::for_range, rules::specs::Qualifying::for_neither, rules::specs::Qualifying::for_range_only, line_trade::specs::TradeLine::no_letters))]
 fn for_last(marked: bool, x: Letters) -> bool
     requires { marked ≡ false → x ≡ no_letters }
     ensures { result ≡ for_last x }
 {
-    if !marked {
-        return true;
-    }
-    decide_letters::for_last(x)
+    !marked || decide_letters::for_last(x)
 }
 
+#[tactic(auto, unfolding(rules::specs::Conditions::has_rule, line_trade::specs::TradeLine::no_letters))]
 fn has_rule(marked: bool, x: Letters) -> bool
     requires { marked ≡ false → x ≡ no_letters }
     ensures { result ≡ has_rule x }
 {
-    if !marked {
-        return false;
-    }
-    decide_letters::has_rule(x)
+    marked && decide_letters::has_rule(x)
 }
 
 // ---- the trade
@@ -92,10 +67,8 @@ fn has_room(
     requires { (length name.now ≡ name_width) × (1 ≤ unit) × OwedSide x }
     ensures { result ≡ leb (length (side_text (name_text temporary name.now) network unit form shows x)) room }
 {
-    if LONGEST_PRINT <= room {
-        return true;
-    }
-    print_side::side_length(name, temporary, network, unit, form, shows, x) <= room
+    LONGEST_PRINT <= room
+        || print_side::side_length(name, temporary, network, unit, form, shows, x) <= room
 }
 
 // A trade that prints: `value` is its price in units, `after` the security after it.
@@ -112,7 +85,7 @@ fn print_out(
     lasts: bool,
     rule: bool,
     after: Security,
-) -> TradeAnswer
+) -> Option<usize>
     requires { (place < security_places) × (1 ≤ s.issue.unit) × SideColumns part.now (side_in t) × Decided st s t.market (side_in t) value lasts rule after }
     ensures { Fitted st s (name_of names.now place) place t.market (side_in t) table.old tape.old table.new tape.new result }
 {
@@ -120,11 +93,10 @@ fn print_out(
     let shows = decide_trade::shows_by(st, s, t.market, t.volume, lasts, rule);
     let temporary = decide_letters::shows_temporary(s);
     let name = call_table::name_at(names, place);
-    let letters = t.letters;
     let x = Side {
         volume: t.volume,
         price: Price { n: t.n, d: t.d },
-        letters: letters,
+        letters: t.letters,
         days: t.days,
         previous: Price { n: t.m, d: t.e },
     };
@@ -138,7 +110,7 @@ fn print_out(
         shows,
         x,
     ) {
-        return untaken();
+        return None;
     }
     call_table::store(table, place, after);
     let k = print_side::write_side(
@@ -152,10 +124,7 @@ fn print_out(
         x,
         part,
     );
-    TradeAnswer {
-        taken: true,
-        length: k,
-    }
+    Some(k)
 }
 
 fn decide(
@@ -168,31 +137,28 @@ fn decide(
     part: &[u8],
     tape: &mut [u8],
     marked: bool,
-) -> TradeAnswer
+) -> Option<usize>
     requires { (place < security_places) × (1 ≤ s.issue.unit) × SideColumns part.now (side_in t) × (marked ≡ false → t.letters ≡ no_letters) }
     ensures { Fitted st s (name_of names.now place) place t.market (side_in t) table.old tape.old table.new tape.new result }
 {
-    let letters = t.letters;
-    let price = Price { n: t.n, d: t.d };
-    let value = print_price::in_units(price);
-    let ranges = for_range(marked, letters);
-    let lasts = for_last(marked, letters);
-    let rule = has_rule(marked, letters);
+    let value = print_price::in_units(Price { n: t.n, d: t.d });
+    let ranges = for_range(marked, t.letters);
+    let lasts = for_last(marked, t.letters);
+    let rule = has_rule(marked, t.letters);
     let prints = decide_trade::prints_by(st, s, t.market, t.volume, value, ranges, lasts, rule);
     let after = decide_trade::after_by(s, t.market, value, prints, ranges, lasts);
     if !prints {
         call_table::store(table, place, after);
-        return TradeAnswer {
-            taken: true,
-            length: 0,
-        };
+        return Some(0);
     }
     print_out(
         st, table, names, place, s, t, part, tape, value, lasts, rule, after,
     )
 }
 
-// `s` is the security at its place, `part` the columns that the side stands in.
+// `s` is the security at its place, `part` the columns that the side stands in. The length of the print is answered, 0 where it
+// is left off; None where J or G are on the wrong network (10) or the print is longer than the lent tape (13), and then nothing
+// is done.
 pub fn carry_out(
     st: Settings,
     table: &mut Table,
@@ -202,14 +168,13 @@ pub fn carry_out(
     t: TradeLine,
     part: &[u8],
     tape: &mut [u8],
-) -> TradeAnswer
+) -> Option<usize>
     requires { (place < security_places) × (1 ≤ s.issue.unit) × SideColumns part.now (side_in t) }
     ensures { Carried st s (name_of names.now place) place t.market (side_in t) table.old tape.old table.new tape.new result }
 {
     let marked = part[24] != b' ';
-    let letters = t.letters;
-    if !is_on_network(marked, s.issue.network, letters) {
-        return untaken();
+    if !is_on_network(marked, s.issue.network, t.letters) {
+        return None;
     }
     decide(st, table, names, place, s, t, part, tape, marked)
 }

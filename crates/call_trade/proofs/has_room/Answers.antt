@@ -1,8 +1,5 @@
-use Rattle.call_trade.proofs.Carried.{room_any, room_by}
+use Rattle.call_trade.proofs.Carried.{room_any}
 use Rattle.call_trade.proofs.has_room.Goals as goal
 
 pub returns-then-room-ge-LONGEST_PRINT : goal.returns-then-room-ge-LONGEST_PRINT
 returns-then-room-ge-LONGEST_PRINT c = search room_any
-
-pub returns : goal.returns
-returns c = search room_by
