@@ -8,7 +8,6 @@ use lib.ListN.{length}
 use Rattle.text.specs.Pick.{pick}
 use Rattle.text.specs.Put.{put}
 use Rattle.rules.specs.Refusal.{number_of}
-use Rattle.rules.specs.declared.Refusal.{Refusal}
 use Rattle.rules.specs.declared.Refusal.TheVariants.{Room}
 use Rattle.rules.specs.declared.Settings.{Settings}
 use Rattle.call_plan.specs.declared.Plan.{Plan}
@@ -16,31 +15,8 @@ use Rattle.call_plan.specs.declared.Plan.TheVariants.{Stop, Open, Enter, Change,
 use Rattle.call_plan.specs.Plan.{plan_of}
 use Rattle.call_print.specs.Print.{printed_name, text_of, fitted_of, print_of}
 use Rattle.call_state.specs.After.{settings_after, table_after, names_after}
-use Rattle.engine.specs.declared.Outcome.{Outcome}
-use Rattle.engine.specs.declared.Outcome.TheVariants.{Accepted, Refused}
 use Rattle.engine.specs.declared.Answer.{Answer}
 use Rattle.engine.specs.Taken.{asked, outcome_of, answer_of, count_of, stop_number, Asked, Taken}
-
--- ---- as the code has it
-
-module _ (o : Outcome) where
-  pub answer_accepted : (n : ℕ) → o ≡ Accepted n → 0 ≡ answer_of o
-  unfolding answer_of
-  answer_accepted n e = rw e
-
-  pub answer_refused : (r : Refusal) (n : ℕ) → o ≡ Refused r → n ≡ number_of r → n ≡ answer_of o
-  unfolding answer_of
-  answer_refused r n e h = rw e h
-
-  pub count_accepted : (n : ℕ) → o ≡ Accepted n → n ≡ count_of o
-  unfolding count_of
-  count_accepted n e = rw e
-
-  pub count_refused : (r : Refusal) → o ≡ Refused r → 0 ≡ count_of o
-  unfolding count_of
-  count_refused r e = rw e
-
-pub ruleset counts = (count_accepted, count_refused)
 
 -- ---- by a plan
 

@@ -8,7 +8,8 @@ use Rattle.rules.specs.declared.Settings.{Settings}
 use Rattle.engine.proofs.Numbers.{taken_as}
 use Rattle.call_plan.specs.declared.Plan.{Plan}
 use Rattle.call_plan.specs.Plan.{plan_of}
-use Rattle.engine.specs.declared.Outcome.{Outcome}
+use Rattle.rules.specs.declared.Refusal.{Refusal}
+use Rattle.std.specs.Prelude.{Result}
 use Rattle.call_print.specs.Print.{printed_name, fitted_of, print_of}
 use Rattle.call_state.specs.After.{settings_after, table_after, names_after}
 use Rattle.engine.specs.Taken.{asked, outcome_of, Taken}
@@ -21,7 +22,7 @@ module _ (st : Settings) (table names line : List ℕ) (p q : Plan) (room : ℕ)
 
 -- ---- the whole call
 
-module _ (st : Settings) (table names line tape table' names' tape' : List ℕ) (p q : Plan) (k : ℕ) (o : Outcome) (s : Settings) where
+module _ (st : Settings) (table names line tape table' names' tape' : List ℕ) (p q : Plan) (k : ℕ) (o : Result ℕ Refusal) (s : Settings) where
   pub taken : p ≡ plan_of st table names line → q ≡ fitted_of st (printed_name names p) p (length tape) → Written (print_of st names q) tape tape' k
       → table' ≡ table_after table q → names' ≡ names_after names line q → o ≡ outcome_of q k → s ≡ settings_after st q
       → Taken st table names line tape table' names' tape' (record { outcome = o; settings = s })

@@ -4,9 +4,11 @@ use native.Mathlib.Omega.{arith}
 use mathlib.Core.Path.{◌≡◌, refl, sym, ap, ◌∙◌}
 use mathlib.Core.Bool.{Bool, true, false, ◌&&◌, not}
 use mathlib.Core.List.{List}
+use Rattle.std.specs.Prelude.{Option, Some, None, Ok, is_some, IfSome}
+use Rattle.std.proofs.lemmas.Option.{IfSome_then}
 use lib.Dec.{eqb, leb, ltb}
 use lib.ListN.{length}
-use borrow.Author.Tests.{le-ltb, lt-ltb, ne_eqb, leb-true, leb-false, not-true, not-false}
+use borrow.Author.Tests.{le-ltb, lt-ltb, ne_eqb, leb-true, leb-false}
 use Rattle.text.specs.Put.{put, Written}
 use Rattle.text.specs.Pick.{pick, among}
 use Rattle.text.proofs.Texts.{and_left}
@@ -31,8 +33,7 @@ use Rattle.line_owed.proofs.Owed.{long, trade_owed, trade_stands}
 use Rattle.line_trade.specs.declared.TradeLine.{TradeLine}
 use Rattle.line_trade.specs.TradeLine.{trade_line, side_in}
 use Rattle.line_trade.proofs.Lines.{good_no, good_shaped, good_kind, good_formed, good_ranged, good_trade}
-use Rattle.call_trade.specs.declared.TradeAnswer.{TradeAnswer}
-use Rattle.call_trade.specs.Traded.{trade_text, untaken_of, Carried}
+use Rattle.call_trade.specs.Traded.{trade_text, Carried}
 use Rattle.call_plan.specs.declared.TradePlan.{TradePlan}
 use Rattle.call_plan.specs.declared.Plan.{Plan}
 use Rattle.call_plan.specs.declared.Plan.TheVariants.{Stop, Print}
@@ -40,7 +41,6 @@ use Rattle.call_plan.specs.Plan.{print_plan, unless_stopped, trade_plan, line_pl
 use Rattle.call_print.specs.Print.{printed_name, print_text, text_of, fitted_of, print_of}
 use Rattle.call_print.proofs.Sound.{has_unit}
 use Rattle.call_state.specs.After.{settings_after, table_after, names_after}
-use Rattle.engine.specs.declared.Outcome.TheVariants.{Accepted}
 use Rattle.engine.specs.declared.Answer.{Answer}
 use Rattle.engine.specs.Calls.{GoodCall}
 use Rattle.engine.specs.Taken.{asked, outcome_of, is_trade, Taken, TradeTaken}
@@ -60,33 +60,28 @@ print_if n room p false k = rw (k, lt-ltb room n (leb-false n room k))
 
 -- ---- no trade: nothing is done
 
-module _ (st : Settings) (table names line tape : List ℕ) (a : TradeAnswer) (u : a ≡ untaken_of) where
-  no_trade : is_trade (asked st table names line (length tape)) ≡ false → TradeTaken st table names line tape table tape a
-  unfolding untaken_of
-  no_trade h = rw u (record {
+module _ (st : Settings) (table names line tape : List ℕ) where
+  no_trade : is_trade (asked st table names line (length tape)) ≡ false → TradeTaken st table names line tape table tape None
+  no_trade h = record {
     accepts = sym h;
     shaped = λ y. absurd (let z : ◌≡◌ {A = ℕ} 0 1 = cc in omega (arith, z));
-    taken_is = λ y. absurd (let z : ◌≡◌ {A = ℕ} 0 1 = cc in omega (arith, z));
+    taken_is = tt;
     table_same = λ y. refl;
     tape_same = λ y. refl;
-    no_length = λ y. refl;
-  })
+  }
 
-  unless : (is_trade (asked st table names line (length tape)) ≡ true → ⊥) → TradeTaken st table names line tape table tape a
+  unless : (is_trade (asked st table names line (length tape)) ≡ true → ⊥) → TradeTaken st table names line tape table tape None
   unless f = no_trade (go (is_trade (asked st table names line (length tape))) refl)
     where
       go : (b : Bool) → is_trade (asked st table names line (length tape)) ≡ b → b ≡ false
       go true e = absurd (f e)
       go false e = refl
 
-  pub undated : st.date ≡ 0 → TradeTaken st table names line tape table tape a
+  pub undated : st.date ≡ 0 → TradeTaken st table names line tape table tape None
   undated e = unless (λ h. a_date st table names line (fitted_trade st table names line (length tape) h) e)
 
-  pub no_good : (t : TradeLine) → t ≡ trade_line line → not t.good ≡ true → TradeTaken st table names line tape table tape a
-  no_good t e n = unless (λ h. let z : ◌≡◌ {A = Bool} true false = sym (a_good st table names line (fitted_trade st table names line (length tape) h)) ∙ good_no line t e (not-true t.good n) in let y : ◌≡◌ {A = ℕ} 0 1 = cc in omega (arith, y))
-
-pub good_call : (st : Settings) (line : List ℕ) (t : TradeLine) → (st.date ≡ 0 → ⊥) → t ≡ trade_line line → not t.good ≡ false → GoodCall st line t
-good_call st line t d e n = record { dated = d; read = e; good = not-false t.good n }
+  pub no_good : None ≡ trade_line line → TradeTaken st table names line tape table tape None
+  no_good e = unless (λ h. let z : ◌≡◌ {A = Bool} true false = sym (a_good st table names line (fitted_trade st table names line (length tape) h)) ∙ good_no line e in let y : ◌≡◌ {A = ℕ} 0 1 = cc in omega (arith, y))
 
 -- ---- a good T line
 
@@ -95,10 +90,10 @@ module _ (st : Settings) (line : List ℕ) (t : TradeLine) (h : GoodCall st line
   trade = record { security = t.security; market = t.market; side = side_in t; lawful = true; matched = true }
 
   trade_is : trade_of line ≡ trade
-  trade_is = good_trade line t h.read h.good
+  trade_is = good_trade line t h.read
 
   sound : OwedTrade trade
-  sound = rw trade_is at (trade_owed line (good_ranged line t h.read h.good))
+  sound = rw trade_is at (trade_owed line (good_ranged line t h.read))
 
   pub some_place : 1 ≤ t.security
   some_place = sound.low
@@ -107,7 +102,7 @@ module _ (st : Settings) (line : List ℕ) (t : TradeLine) (h : GoodCall st line
   place_in = omega (arith, sound.low, sound.high)
 
   is_shaped_lem : is_shaped line ≡ true
-  is_shaped_lem = good_shaped line t h.read h.good
+  is_shaped_lem = good_shaped line t h.read
 
   pub line_length : length line ≡ width
   line_length = long line is_shaped_lem
@@ -116,11 +111,11 @@ module _ (st : Settings) (line : List ℕ) (t : TradeLine) (h : GoodCall st line
   line_room = omega (arith, line_length)
 
   pub side_stands : SideColumns (first_side line) (side_in t)
-  side_stands = rw trade_is at (trade_stands line line_length (good_formed line t h.read h.good) (good_ranged line t h.read h.good))
+  side_stands = rw trade_is at (trade_stands line line_length (good_formed line t h.read) (good_ranged line t h.read))
 
   module _ (table names : List ℕ) where
     kind : column 1 line ≡ 84
-    kind = good_kind line t h.read h.good
+    kind = good_kind line t h.read
 
     a_kind : is_kind (column 1 line) ≡ true
     unfolding is_kind among
@@ -131,11 +126,11 @@ module _ (st : Settings) (line : List ℕ) (t : TradeLine) (h : GoodCall st line
 
     formed_is : is_formed line ≡ true
     unfolding is_formed
-    formed_is = ap (λ (q : Parsed). q.formed) (of_trade line kind) ∙ good_formed line t h.read h.good
+    formed_is = ap (λ (q : Parsed). q.formed) (of_trade line kind) ∙ good_formed line t h.read
 
     ranged_is : is_ranged line ≡ true
     unfolding is_ranged
-    ranged_is = ap (λ (q : Parsed). q.ranged) (of_trade line kind) ∙ good_ranged line t h.read h.good
+    ranged_is = ap (λ (q : Parsed). q.ranged) (of_trade line kind) ∙ good_ranged line t h.read
 
     line_is : line_of line ≡ Traded trade
     unfolding line_of
@@ -153,9 +148,9 @@ module _ (st : Settings) (line : List ℕ) (t : TradeLine) (h : GoodCall st line
       unfolding asked fitted_of
       stops x room e = rw e (stop_either (ltb room (length (text_of st (printed_name names (Stop x)) (Stop x)))) Room x)
 
-      pub not_entered : (tape : List ℕ) (q : Bool) (a : TradeAnswer) → q ≡ is_entered s → not q ≡ true → a ≡ untaken_of → TradeTaken st table names line tape table tape a
+      pub not_entered : (tape : List ℕ) (q : Bool) → q ≡ is_entered s → not q ≡ true → TradeTaken st table names line tape table tape None
       unfolding trade_plan unless_stopped pick
-      not_entered tape q a e n u = no_trade st table names line tape a u (stops NotEntered (length tape) (through ∙ rw (← e, n)))
+      not_entered tape q e n = no_trade st table names line tape (stops NotEntered (length tape) (through ∙ rw (← e, n)))
 
       -- ---- of an entered security
 
@@ -200,7 +195,7 @@ module _ (st : Settings) (line : List ℕ) (t : TradeLine) (h : GoodCall st line
           unfolding asked fitted_of print_of pick
           asked_is = rw (on_plan n, le-ltb (length tape) (length (print_of st names (Print plan))) fits)
 
-          outcome_is : (m : ℕ) → Accepted m ≡ outcome_of (Print plan) m
+          outcome_is : (m : ℕ) → Ok m ≡ outcome_of (Print plan) m
           unfolding outcome_of
           outcome_is m = refl
 
@@ -216,32 +211,38 @@ module _ (st : Settings) (line : List ℕ) (t : TradeLine) (h : GoodCall st line
           unfolding names_after
           names_is = refl
 
-          taken : Taken st table names line tape table' names tape' (record { outcome = Accepted k; settings = st })
+          taken : Taken st table names line tape table' names tape' (record { outcome = Ok k; settings = st })
           taken =
               let is = sym asked_is in
-              taken_as st table names line tape table' names tape' (record { outcome = Accepted k; settings = st })
-              (ap Accepted (w.count_is ∙ ap length (sym text_is)) ∙ (outcome_is (length (print_of st names (Print plan))) ∙ ap (λ (q : Plan). outcome_of q (length (print_of st names q))) is))
+              taken_as st table names line tape table' names tape' (record { outcome = Ok k; settings = st })
+              (ap Ok (w.count_is ∙ ap length (sym text_is)) ∙ (outcome_is (length (print_of st names (Print plan))) ∙ ap (λ (q : Plan). outcome_of q (length (print_of st names q))) is))
               (settings_is ∙ ap (settings_after st) is)
               (e ∙ (table_is ∙ ap (table_after table) is))
               (names_is ∙ ap (names_after names line) is)
               (w.tape ∙ (ap (λ (z : List ℕ). put z tape) (sym text_is) ∙ ap (λ (q : Plan). put (print_of st names q) tape) is))
 
-        pub carried : (tape table' tape' : List ℕ) (r : TradeAnswer) → Carried st s (name_of names (t.security - 1)) (t.security - 1) t.market (side_in t) table tape table' tape' r → TradeTaken st table names line tape table' tape' r
+        done : (tape table' tape' : List ℕ) (r : Option ℕ) → Carried st s (name_of names (t.security - 1)) (t.security - 1) t.market (side_in t) table tape table' tape' r
+            → is_some r ≡ true → IfSome r (λ k. Taken st table names line tape table' names tape' (record { outcome = Ok k; settings = st }))
+        done tape table' tape' r c y = IfSome_then r c.printed (λ k w. taken tape table' tape' k (and_left (on_network s.issue.network t.letters) _ (sym c.taken_is ∙ y)) (c.stored y) w)
+
+        -- what is taken, if anything is
+        taken_if : (tape table' tape' : List ℕ) (r : Option ℕ) → (is_some r ≡ true → IfSome r (λ k. Taken st table names line tape table' names tape' (record { outcome = Ok k; settings = st })))
+            → IfSome r (λ k. Taken st table names line tape table' names tape' (record { outcome = Ok k; settings = st }))
+        taken_if tape table' tape' None f = tt
+        taken_if tape table' tape' (Some k) f = f refl
+
+        pub carried : (tape table' tape' : List ℕ) (r : Option ℕ) → Carried st s (name_of names (t.security - 1)) (t.security - 1) t.market (side_in t) table tape table' tape' r → TradeTaken st table names line tape table' tape' r
         carried tape table' tape' r c = record {
           accepts = c.taken_is ∙ sym (accepts_is (length tape));
           shaped = λ y. is_shaped_lem;
-          taken_is = λ y. taken tape table' tape' r.length (and_left (on_network s.issue.network t.letters) _ (sym c.taken_is ∙ y)) (c.stored y) (c.printed y);
+          taken_is = taken_if tape table' tape' r (done tape table' tape' r c);
           table_same = c.untouched;
           tape_same = c.unprinted;
-          no_length = c.no_length;
         }
 
 -- ---- a line that was asked for a trade
 
-module _ (st : Settings) (table names line tape table₁ tape₁ : List ℕ) (r : TradeAnswer) (h : TradeTaken st table names line tape table₁ tape₁ r) where
-  pub trade_done : r.taken ≡ true → Taken st table names line tape table₁ names tape₁ (record { outcome = Accepted r.length; settings = st })
-  trade_done e = h.taken_is e
-
+module _ (st : Settings) (table names line tape table₁ tape₁ : List ℕ) where
   -- goes on as if it had not been
-  pub trade_passed : (table' names' tape' : List ℕ) (a : Answer) → r.taken ≡ false → Taken st table₁ names line tape₁ table' names' tape' a → Taken st table names line tape table' names' tape' a
-  trade_passed table' names' tape' a e t = rw (← h.table_same e, ← h.tape_same e) t
+  pub trade_passed : TradeTaken st table names line tape table₁ tape₁ None → (table' names' tape' : List ℕ) (a : Answer) → Taken st table₁ names line tape₁ table' names' tape' a → Taken st table names line tape table' names' tape' a
+  trade_passed h table' names' tape' a t = rw (← h.table_same refl, ← h.tape_same refl) t

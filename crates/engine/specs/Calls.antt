@@ -1,5 +1,5 @@
 -- Calls with a T line that refusals 1 to 5 and 11 do not stop. Assumes nothing.
-use Rattle.std.specs.Prelude.{ℕ, ◌≡◌, true, List}
+use Rattle.std.specs.Prelude.{ℕ, ◌≡◌, List, Some}
 use Rattle.rules.specs.declared.Settings.{Settings}
 use Rattle.line_trade.specs.declared.TradeLine.{TradeLine}
 use Rattle.line_trade.specs.TradeLine.{trade_line}
@@ -7,5 +7,4 @@ use Rattle.line_trade.specs.TradeLine.{trade_line}
 -- a good T line after a D, and what it was read as
 pub record GoodCall (st : Settings) (line : List ℕ) (t : TradeLine) : Type 0 where
   pub dated : st.date ≡ 0 → ⊥
-  pub read : t ≡ trade_line line
-  pub good : t.good ≡ true
+  pub read : Some t ≡ trade_line line

@@ -1,17 +1,15 @@
 -- One call of the engine (document 01, "Tape characters", "Day lines", "Lines not taken"): what it prints, stores and answers, by the plan that the line asks for. Assumes nothing.
-use Rattle.std.specs.Prelude.{ℕ, ◌≡◌, Bool, true, false, List, ltb, length}
+use Rattle.std.specs.Prelude.{ℕ, ◌≡◌, Bool, true, false, List, Option, is_some, IfSome, Result, Ok, Err, ltb, length}
 use Rattle.text.specs.Pick.{pick}
 use Rattle.text.specs.Put.{put}
 use Rattle.rules.specs.Line.{is_shaped}
 use Rattle.rules.specs.declared.Settings.{Settings}
 use Rattle.rules.specs.Refusal.{number_of}
+use Rattle.rules.specs.declared.Refusal.{Refusal}
 use Rattle.call_plan.specs.declared.Plan.{Plan}
 use Rattle.call_plan.specs.declared.Plan.TheVariants.{Stop, Open, Enter, Change, Level, Step, Print, Cancel, Correct}
 use Rattle.call_plan.specs.Plan.{plan_of}
-use Rattle.engine.specs.declared.Outcome.{Outcome}
-use Rattle.engine.specs.declared.Outcome.TheVariants.{Accepted, Refused}
 use Rattle.engine.specs.declared.Answer.{Answer}
-use Rattle.call_trade.specs.declared.TradeAnswer.{TradeAnswer}
 use Rattle.call_print.specs.Print.{printed_name, fitted_of, print_of}
 use Rattle.call_state.specs.After.{settings_after, table_after, names_after}
 
@@ -22,28 +20,28 @@ asked st table names line room =
     fitted_of st (printed_name names p) p room
 
 -- a refusal gives its number (rules, `number_of`) and length 0; what is accepted, the length of its print
-unfoldable pub outcome_of : Plan → ℕ → Outcome
-outcome_of (Stop r) n = Refused r
-outcome_of (Open d) n = Accepted n
-outcome_of (Enter i s) n = Accepted n
-outcome_of (Change m) n = Accepted n
-outcome_of (Level l) n = Accepted n
-outcome_of (Step l) n = Accepted n
-outcome_of (Print t) n = Accepted n
-outcome_of (Cancel t) n = Accepted n
-outcome_of (Correct c) n = Accepted n
+unfoldable pub outcome_of : Plan → ℕ → Result ℕ Refusal
+outcome_of (Stop r) n = Err r
+outcome_of (Open d) n = Ok n
+outcome_of (Enter i s) n = Ok n
+outcome_of (Change m) n = Ok n
+outcome_of (Level l) n = Ok n
+outcome_of (Step l) n = Ok n
+outcome_of (Print t) n = Ok n
+outcome_of (Cancel t) n = Ok n
+outcome_of (Correct c) n = Ok n
 
 -- ---- an outcome in document 01's numbers
 
 -- 0 where the line is accepted, else the number of its refusal
-unfoldable pub answer_of : Outcome → ℕ
-answer_of (Accepted n) = 0
-answer_of (Refused r) = number_of r
+unfoldable pub answer_of : Result ℕ Refusal → ℕ
+answer_of (Ok n) = 0
+answer_of (Err r) = number_of r
 
 -- the length of its print, 0 where nothing prints
-unfoldable pub count_of : Outcome → ℕ
-count_of (Accepted n) = n
-count_of (Refused r) = 0
+unfoldable pub count_of : Result ℕ Refusal → ℕ
+count_of (Ok n) = n
+count_of (Err r) = 0
 
 -- the number of the refusal that stops a plan, 0 where none does
 unfoldable pub stop_number : Plan → ℕ
@@ -89,10 +87,9 @@ is_trade (Print t) = true
 is_trade (Cancel t) = false
 is_trade (Correct c) = false
 
-pub record TradeTaken (st : Settings) (table names line tape table' tape' : List ℕ) (r : TradeAnswer) : Type 0 where
-  pub accepts : r.taken ≡ is_trade (asked st table names line (length tape))
-  pub shaped : r.taken ≡ true → is_shaped line ≡ true
-  pub taken_is : r.taken ≡ true → Taken st table names line tape table' names tape' (record { outcome = Accepted r.length; settings = st })
-  pub table_same : r.taken ≡ false → table' ≡ table
-  pub tape_same : r.taken ≡ false → tape' ≡ tape
-  pub no_length : r.taken ≡ false → r.length ≡ 0
+pub record TradeTaken (st : Settings) (table names line tape table' tape' : List ℕ) (r : Option ℕ) : Type 0 where
+  pub accepts : is_some r ≡ is_trade (asked st table names line (length tape))
+  pub shaped : is_some r ≡ true → is_shaped line ≡ true
+  pub taken_is : IfSome r (λ n. Taken st table names line tape table' names tape' (record { outcome = Ok n; settings = st }))
+  pub table_same : is_some r ≡ false → table' ≡ table
+  pub tape_same : is_some r ≡ false → tape' ≡ tape

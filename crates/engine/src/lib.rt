@@ -11,16 +11,11 @@ ghost use Rattle.engine.specs.Taken.{outcome_of, Asked, Taken, TradeTaken, answe
 
 use call_plan::Plan;
 use call_table::{Names, Table};
-use call_trade::TradeAnswer;
 use line_trade::TradeLine;
 use rules::{FIRST_SIDE, Refusal, SECOND_SIDE, Settings};
 
 // Accepted, with the length of its print, 0 where nothing prints; or refused.
-#[derive(Clone, Copy)]
-pub enum Outcome {
-    Accepted(usize),
-    Refused(Refusal),
-}
+pub type Outcome = Result<usize, Refusal>;
 
 #[derive(Clone, Copy)]
 pub struct Answer {
@@ -28,19 +23,13 @@ pub struct Answer {
     pub settings: Settings,
 }
 
+#[tactic(auto, unfolding(crate::specs::Taken::outcome_of))]
 fn outcome_of(p: Plan, n: usize) -> Outcome
     ensures { result ≡ outcome_of p n }
 {
     match p {
-        Plan::Stop(r) => Outcome::Refused(r),
-        Plan::Open(_) => Outcome::Accepted(n),
-        Plan::Enter(_, _) => Outcome::Accepted(n),
-        Plan::Change(_) => Outcome::Accepted(n),
-        Plan::Level(_) => Outcome::Accepted(n),
-        Plan::Step(_) => Outcome::Accepted(n),
-        Plan::Print(_) => Outcome::Accepted(n),
-        Plan::Cancel(_) => Outcome::Accepted(n),
-        Plan::Correct(_) => Outcome::Accepted(n),
+        Plan::Stop(r) => Err(r),
+        _ => Ok(n),
     }
 }
 
@@ -50,41 +39,28 @@ fn outcome_of(p: Plan, n: usize) -> Outcome
 pub fn number_of(r: Refusal) -> u64
     ensures { result ≡ number_of r }
 {
-    match r {
-        Refusal::Shape => 1,
-        Refusal::Kind => 2,
-        Refusal::NoDate => 3,
-        Refusal::Form => 4,
-        Refusal::Value => 5,
-        Refusal::NotEntered => 6,
-        Refusal::InUse => 7,
-        Refusal::Name => 8,
-        Refusal::SameName => 9,
-        Refusal::Conditions => 10,
-        Refusal::Unmatched => 11,
-        Refusal::DateOrder => 12,
-        Refusal::Room => 13,
-        Refusal::NoPrint => 14,
-    }
+    u64::from(r)
 }
 
 // 0 where the line is accepted, else the number of its refusal.
+#[tactic(auto, unfolding(crate::specs::Taken::answer_of))]
 pub fn answer_of(o: Outcome) -> u64
     ensures { result ≡ answer_of o }
 {
     match o {
-        Outcome::Accepted(_) => 0,
-        Outcome::Refused(x) => number_of(x),
+        Ok(_) => 0,
+        Err(r) => number_of(r),
     }
 }
 
 // The length of its print, 0 where nothing prints.
+#[tactic(auto, unfolding(crate::specs::Taken::count_of))]
 pub fn count_of(o: Outcome) -> usize
     ensures { result ≡ count_of o }
 {
     match o {
-        Outcome::Accepted(n) => n,
-        Outcome::Refused(_) => 0,
+        Ok(n) => n,
+        Err(_) => 0,
     }
 }
 
@@ -115,14 +91,14 @@ fn take_good(
     line: &[u8],
     t: TradeLine,
     tape: &mut [u8],
-) -> TradeAnswer
+) -> Option<usize>
     requires { GoodCall st line.now t }
     ensures { TradeTaken st table.old names.now line.now tape.old table.new tape.new result }
 {
     let place = (t.security - 1) as usize;
     let s = call_table::load(table, place);
     if !decide_letters::is_entered(s) {
-        return call_trade::untaken();
+        return None;
     }
     call_trade::carry_out(
         st,
@@ -136,24 +112,23 @@ fn take_good(
     )
 }
 
-// A trade: a T line that the call accepts. With any other line nothing is done, and the answer says so.
+// A trade: a T line that the call accepts, and the length of its print. With any other line nothing is done, and the answer is None.
 pub fn take_trade(
     st: Settings,
     table: &mut Table,
     names: &Names,
     line: &[u8],
     tape: &mut [u8],
-) -> TradeAnswer
+) -> Option<usize>
     ensures { TradeTaken st table.old names.now line.now tape.old table.new tape.new result }
 {
     if st.date == 0 {
-        return call_trade::untaken();
+        return None;
     }
-    let t = line_trade::read_trade_line(line);
-    if !t.good {
-        return call_trade::untaken();
+    match line_trade::read_trade_line(line) {
+        Some(t) => take_good(st, table, names, line, t, tape),
+        None => None,
     }
-    take_good(st, table, names, line, t, tape)
 }
 
 // Any line, by its plan. Whoever calls it hands trades to `take_trade` first.
@@ -187,12 +162,11 @@ pub fn take_line(
 ) -> Answer
     ensures { Taken st table.old names.old line.now tape.old table.new names.new tape.new result }
 {
-    let t = take_trade(st, table, names, line, tape);
-    if t.taken {
-        return Answer {
-            outcome: Outcome::Accepted(t.length),
+    match take_trade(st, table, names, line, tape) {
+        Some(length) => Answer {
+            outcome: Ok(length),
             settings: st,
-        };
+        },
+        None => take_by_plan(st, table, names, line, tape),
     }
-    take_by_plan(st, table, names, line, tape)
 }

@@ -4,11 +4,13 @@ use native.Mathlib.Omega.{arith}
 use mathlib.Core.Path.{◌≡◌, refl, sym, ap, ◌∙◌}
 use mathlib.Core.Bool.{Bool, true, false, not}
 use mathlib.Core.List.{List, ◌∷◌, ◌++◌}
+use Rattle.std.specs.Prelude.{Option, Some, Ok, is_some, ⊤}
+use Rattle.std.proofs.lemmas.Option.{MatchOption-at_some}
 use lib.Dec.{eqb, ltb}
 use lib.ListN.{length, take, drop, length-append, length-take, length-drop, take-append-drop}
 use mir.Val.{Fits}
 use mir.Syntax.{w64}
-use borrow.Author.Tests.{eqb-true, ltb-true, not-true, not-false}
+use borrow.Author.Tests.{eqb-true, ltb-true, not-false}
 use Rattle.text.specs.Pick.{all, pick}
 use Rattle.text.proofs.Texts.{and_left, and_right}
 use Rattle.text.proofs.Writing.{written_nothing}
@@ -16,8 +18,6 @@ use Rattle.rules.specs.Columns.{between}
 use Rattle.rules.specs.Line.{is_printable, is_shaped}
 use Rattle.rules.specs.declared.Settings.{Settings}
 use Rattle.rules.specs.Sizes.{width}
-use Rattle.engine.specs.declared.Outcome.TheVariants.{Accepted}
-use Rattle.call_trade.specs.declared.TradeAnswer.{TradeAnswer}
 use Rattle.engine.specs.Taken.{Taken, TradeTaken, count_of}
 use Rattle.feed_blocks.specs.Lines.{ends_at}
 use Rattle.feed_blocks.proofs.Scan.{line_at}
@@ -62,7 +62,7 @@ line_ahead true line at s e =
     let n : at + width ≡ length line = eqb-true (at + width) (length line) e in
     rw n (last_then line at (omega arith))
 
-module _ (last : Bool) (block names refusals table₀ tape₀ : List ℕ) (st : Settings) (f : Fed) (table tape : List ℕ) (r : Fed) (inv : Run last block names refusals table₀ tape₀ st f table tape r) (table' ys : List ℕ) (p : TradeAnswer) where
+module _ (last : Bool) (block names refusals table₀ tape₀ : List ℕ) (st : Settings) (f : Fed) (table tape : List ℕ) (r : Fed) (inv : Run last block names refusals table₀ tape₀ st f table tape r) (table' ys : List ℕ) (p : Option ℕ) where
   abbrev line : List ℕ
   line = take (r.at + width - r.at) (drop r.at block)
 
@@ -72,26 +72,25 @@ module _ (last : Bool) (block names refusals table₀ tape₀ : List ℕ) (st : 
   abbrev tape' : List ℕ
   tape' = take r.out tape ++ (ys ++ drop (length tape - r.out) (drop r.out tape))
 
-  abbrev next : Fed
-  next = record { settings = r.settings; number = r.number + 1; at = r.at + width + 1; out = r.out + p.length; err = r.err }
-
   module _ (t : TradeTaken st table names line lent table' ys p) where
     -- no trade: nothing was done
-    pub run_stop : not p.taken ≡ true → Runs last block names refusals table₀ tape₀ f table' tape' r
-    run_stop e =
-        let none = not-true p.taken e in
+    pub run_stop : is_some p ≡ false → Runs last block names refusals table₀ tape₀ f table' tape' r
+    run_stop none =
         let back : tape' ≡ tape = rw (t.tape_same none) (put_back tape r.out (length tape - r.out)) in
         rw (t.table_same none, back) inv.runs
 
-    module _ (went : not p.taken ≡ false) where
-      taken : p.taken ≡ true
-      taken = not-false p.taken went
+    module _ (n : ℕ) (went : p ≡ Some n) where
+      abbrev next : Fed
+      next = record { settings = r.settings; number = r.number + 1; at = r.at + width + 1; out = r.out + n; err = r.err }
 
-      fits : p.length ≤ length tape - r.out
+      taken : Taken st table names line lent table' names ys (record { outcome = Ok n; settings = st })
+      taken = MatchOption-at_some ⊤ _ n went t.taken_is
+
+      fits : n ≤ length tape - r.out
       unfolding count_of
-      fits = omega (arith, taken_fits st table names line lent table' names ys _ (t.taken_is taken), length-take (length tape - r.out) (drop r.out tape), length-drop r.out tape)
+      fits = omega (arith, taken_fits st table names line lent table' names ys _ taken, length-take (length tape - r.out) (drop r.out tape), length-drop r.out tape)
 
-      pub print_adds : length tape₀ < 2 ^ 64 → Fits w64 (r.out + p.length)
+      pub print_adds : length tape₀ < 2 ^ 64 → Fits w64 (r.out + n)
       print_adds l = record { fits = omega (arith, fits, inv.runs.tape_in, inv.size) }
 
       -- as the code has it: `b` is the answer whether a line ends there
@@ -103,16 +102,16 @@ module _ (last : Bool) (block names refusals table₀ tape₀ : List ℕ) (st : 
         unfolding count_of told
         steps =
             let k : List ℕ = take (length refusals - r.err) (drop r.err refusals) in
-            let here : Taken r.settings table names line lent table' names ys (record { outcome = Accepted p.length; settings = r.settings }) = rw inv.settings_is (t.taken_is taken) in
+            let here : Taken r.settings table names line lent table' names ys (record { outcome = Ok n; settings = r.settings }) = rw inv.settings_is taken in
             let zero : r.err + 0 ≡ r.err = omega arith in
-            rw (put_back refusals r.err (length refusals - r.err), zero) at (line_fed r block table names tape refusals table' names ys k (record { outcome = Accepted p.length; settings = r.settings }) (r.at + width) p.length 0 here refl (written_nothing k) (omega arith) in_block)
+            rw (put_back refusals r.err (length refusals - r.err), zero) at (line_fed r block table names tape refusals table' names ys k (record { outcome = Ok n; settings = r.settings }) (r.at + width) n 0 here refl (written_nothing k) (omega arith) in_block)
 
         run_step : (t₀ r₀ : List ℕ) (goal : Progress) → Here day_program last block t₀ r₀ goal table names tape refusals r → Here day_program last block t₀ r₀ goal table' names tape' refusals next
-        run_step t₀ r₀ goal h = here_next h _ _ (line_ahead last block r.at (t.shaped taken) (sym tells ∙ not-false b ends)) (sym holds ∙ is) table' names tape' refusals next steps refl
+        run_step t₀ r₀ goal h = here_next h _ _ (line_ahead last block r.at (t.shaped (ap is_some went)) (sym tells ∙ not-false b ends)) (sym holds ∙ is) table' names tape' refusals next steps refl
 
         pub run_on : Run last block names refusals table₀ tape₀ st f table' tape' next
         run_on =
-            let size : length tape' ≡ length tape = simp (length-append, length-take, length-drop) (omega (arith, taken_size st table names line lent table' names ys _ (t.taken_is taken), length-take (length tape - r.out) (drop r.out tape), length-drop r.out tape, inv.runs.tape_in)) in
+            let size : length tape' ≡ length tape = simp (length-append, length-take, length-drop) (omega (arith, taken_size st table names line lent table' names ys _ taken, length-take (length tape - r.out) (drop r.out tape), length-drop r.out tape, inv.runs.tape_in)) in
             record {
               runs = record { to = λ t₀ r₀ goal h. run_step t₀ r₀ goal (inv.runs.to t₀ r₀ goal h); ahead = omega (arith, inv.runs.ahead); tape_in = omega (arith, size, fits, inv.runs.tape_in); refusals_in = inv.runs.refusals_in };
               settings_is = inv.settings_is;

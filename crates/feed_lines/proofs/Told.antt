@@ -9,8 +9,7 @@ use Rattle.text.proofs.Writing.{written_nothing}
 use Rattle.rules.specs.Refusal.{number_of}
 use Rattle.rules.specs.declared.Refusal.{Refusal}
 use Rattle.rules.proofs.Refusals.{number_most}
-use Rattle.engine.specs.declared.Outcome.{Outcome}
-use Rattle.engine.specs.declared.Outcome.TheVariants.{Accepted, Refused}
+use Rattle.std.specs.Prelude.{Result, Ok, Err}
 use Rattle.text_right.proofs.Writes.{length_right}
 use Rattle.feed_lines.specs.Refusals.{refusal_line}
 use Rattle.feed_lines.specs.Feed.{told}
@@ -24,12 +23,12 @@ length_refusal number r h = simp length-append (omega (arith, length_right 9 num
 
 -- ---- what is told of an outcome
 
-module _ (o : Outcome) where
-  pub told_none : (number n : ℕ) (b : List ℕ) → o ≡ Accepted n → Written (told number o) b b 0
+module _ (o : Result ℕ Refusal) where
+  pub told_none : (number n : ℕ) (b : List ℕ) → o ≡ Ok n → Written (told number o) b b 0
   unfolding told
   told_none number n b e = rw e (written_nothing b)
 
-module _ (o : Outcome) (r : Refusal) (k number : ℕ) (refused : o ≡ Refused r) (is : k ≡ number_of r) where
+module _ (o : Result ℕ Refusal) (r : Refusal) (k number : ℕ) (refused : o ≡ Err r) (is : k ≡ number_of r) where
   told_is : told number o ≡ refusal_line number k
   unfolding told
   told_is = rw (refused, is)
@@ -40,11 +39,11 @@ module _ (o : Outcome) (r : Refusal) (k number : ℕ) (refused : o ≡ Refused r
   pub told_room : (m : ℕ) → length (told number o) ≤ m → length (refusal_line number k) ≤ m
   told_room m h = rw told_is at h
 
-told_short : (number : ℕ) (o : Outcome) → number ≤ 9999999999 → length (told number o) ≤ 14
+told_short : (number : ℕ) (o : Result ℕ Refusal) → number ≤ 9999999999 → length (told number o) ≤ 14
 unfolding told
-told_short number (Accepted n) h = omega arith
-told_short number (Refused r) h = omega (arith, length_refusal number r h)
+told_short number (Ok n) h = omega arith
+told_short number (Err r) h = omega (arith, length_refusal number r h)
 
 -- there is room for it
-pub told_fits : (number k : ℕ) (o : Outcome) (xs : List ℕ) → 14 ≤ length xs - k → number ≤ 9999999999 → length (told number o) ≤ length (take (length xs - k) (drop k xs))
+pub told_fits : (number k : ℕ) (o : Result ℕ Refusal) (xs : List ℕ) → 14 ≤ length xs - k → number ≤ 9999999999 → length (told number o) ≤ length (take (length xs - k) (drop k xs))
 told_fits number k o xs h l = simp (length-take, length-drop) (omega (arith, told_short number o l))

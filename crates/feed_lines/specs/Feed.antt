@@ -1,10 +1,9 @@
 -- What the day program tells of a line (document 01, "Shown facts and the whole day"): its print on standard output, its refusal on standard error. Assumes nothing.
-use Rattle.std.specs.Prelude.{ℕ, ◌≤◌, Bool, List, [], eqb, length}
+use Rattle.std.specs.Prelude.{ℕ, ◌≤◌, Bool, List, [], Result, Ok, Err, eqb, length}
 use Rattle.text.specs.Pick.{pick}
 use Rattle.rules.specs.Refusal.{number_of}
 use Rattle.rules.specs.Sizes.{longest_print}
-use Rattle.engine.specs.declared.Outcome.{Outcome}
-use Rattle.engine.specs.declared.Outcome.TheVariants.{Accepted, Refused}
+use Rattle.rules.specs.declared.Refusal.{Refusal}
 use Rattle.engine.specs.Taken.{asked, outcome_of}
 use Rattle.call_print.specs.Print.{print_of}
 use Rattle.feed_blocks.specs.Lines.{ends_at}
@@ -13,9 +12,9 @@ use Rattle.feed_gather.specs.declared.Fed.{Fed}
 use Rattle.feed_lines.specs.Refusals.{refusal_line}
 
 -- what is told of an outcome
-unfoldable pub told : ℕ → Outcome → List ℕ
-told number (Accepted n) = []
-told number (Refused r) = refusal_line number (number_of r)
+unfoldable pub told : ℕ → Result ℕ Refusal → List ℕ
+told number (Ok n) = []
+told number (Err r) = refusal_line number (number_of r)
 
 -- the engine is lent what is left of the tape; a line is taken where `longest_print` bytes of it are left, and 14 for its refusal
 abbrev pub day_program : Program

@@ -29,11 +29,8 @@ fn write_told(rest: &mut [u8], number: u64, o: Outcome) -> usize
     ensures { Written (told number o) rest.old rest.new result }
 {
     match o {
-        Outcome::Accepted(_) => 0,
-        Outcome::Refused(r) => {
-            let k = engine::number_of(r);
-            write_refusal(rest, number, k)
-        }
+        Ok(_) => 0,
+        Err(r) => write_refusal(rest, number, u64::from(r)),
     }
 }
 
@@ -63,33 +60,34 @@ fn feed_line(
     requires { (f.at ≤ end) × (end ≤ length block.now) × (f.out ≤ length tape.old) × (14 ≤ length refusals.old - f.err) × (f.number ≤ last_line) }
     ensures { Steps day_program (take (end - f.at) (drop f.at block.now)) table.old names.old tape.old refusals.old f table.new names.new tape.new refusals.new result × (result.at ≡ end + 1) × (result.out ≤ length tape.new) × (result.err ≤ length refusals.new) }
 {
-    let next = end + 1;
-    let at = f.at;
-    let n = f.out;
-    let k = f.err;
-    let st = f.settings;
-    let a = engine::take_by_plan(st, table, names, &block[at..end], &mut tape[n..]);
-    let settings = a.settings;
-    let outcome = a.outcome;
-    let on_tape = n + engine::count_of(outcome);
-    let in_refusals = k + write_told(&mut refusals[k..], f.number, outcome);
+    let a = engine::take_by_plan(
+        f.settings,
+        table,
+        names,
+        &block[f.at..end],
+        &mut tape[f.out..],
+    );
+    let on_tape = f.out + engine::count_of(a.outcome);
+    let in_refusals = f.err + write_told(&mut refusals[f.err..], f.number, a.outcome);
     Fed {
-        settings: settings,
+        settings: a.settings,
         number: f.number + 1,
-        at: next,
+        at: end + 1,
         out: on_tape,
         err: in_refusals,
     }
 }
 
 // A line ends at a place: a last line where the block ends, any other at a line feed.
+#[tactic(auto, unfolding(crate::specs::Feed::ends_line, text::specs::Pick::pick))]
 fn ends_line(block: &[u8], at: usize, last: bool) -> bool
     ensures { result ≡ ends_line last block.now at }
 {
     if last {
-        return at == block.len();
+        at == block.len()
+    } else {
+        feed_blocks::ends_at(block, at)
     }
-    feed_blocks::ends_at(block, at)
 }
 
 // Trades from where the reading stands on, as many as follow one another; where `last` is true the block is one line that no
@@ -109,19 +107,17 @@ fn feed_trades(
     let st = f.settings;
     let mut r = f;
     while room_left(r, tape.len(), refusals.len()) {
-        let at = r.at;
-        let end = at + WIDTH;
+        let end = r.at + WIDTH;
         if !ends_line(block, end, last) {
             return r;
         }
-        let n = r.out;
-        let p = engine::take_trade(st, table, names, &block[at..end], &mut tape[n..]);
-        if !p.taken {
+        let taken = engine::take_trade(st, table, names, &block[r.at..end], &mut tape[r.out..]);
+        let Some(length) = taken else {
             return r;
-        }
-        r.number = r.number + 1;
+        };
+        r.number += 1;
         r.at = end + 1;
-        r.out = n + p.length;
+        r.out += length;
     }
     r
 }
@@ -142,16 +138,15 @@ pub fn feed(
     ensures { Stands tape.old refusals.old (block_taken day_program (length tape.old) (length refusals.old) block.now (started settings table.old names.old number)) table.new names.new tape.new refusals.new result }
 {
     let mut f = Fed {
-        settings: settings,
-        number: number,
+        settings,
+        number,
         at: 0,
         out: 0,
         err: 0,
     };
     while f.at < block.len() {
         f = feed_trades(f, table, names, block, false, tape, refusals);
-        let at = f.at;
-        let end = feed_blocks::line_end(block, at);
+        let end = feed_blocks::line_end(block, f.at);
         if block.len() <= end {
             return f;
         }
@@ -176,8 +171,8 @@ pub fn feed_last(
     ensures { Stands tape.old refusals.old (lines_taken day_program (length tape.old) (length refusals.old) (line.now ∷ []) (started settings table.old names.old number)) table.new names.new tape.new refusals.new result }
 {
     let start = Fed {
-        settings: settings,
-        number: number,
+        settings,
+        number,
         at: 0,
         out: 0,
         err: 0,

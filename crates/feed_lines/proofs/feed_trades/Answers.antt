@@ -1,4 +1,4 @@
-use Rattle.feed_lines.proofs.Runs.{run_start, run_stop, line_in, next_adds, print_adds, number_adds, run_less, run_on}
+use Rattle.feed_lines.proofs.Runs.{run_start, line_in, next_adds, print_adds, number_adds, run_less, run_on}
 use Rattle.feed_lines.proofs.feed_trades.Goals as goal
 
 pub loop-st-init : goal.loop-st-init
@@ -6,9 +6,6 @@ loop-st-init c = search run_start
 
 pub slice_bounds-take_trade-end : goal.slice_bounds-take_trade-end
 slice_bounds-take_trade-end c = search line_in
-
-pub returns-then-not-p : goal.returns-then-not-p
-returns-then-not-p c = search run_stop
 
 pub overflow_add-r : goal.overflow_add-r
 overflow_add-r c = search number_adds

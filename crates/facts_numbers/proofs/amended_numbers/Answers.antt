@@ -1,5 +1,0 @@
-use Rattle.facts_numbers.proofs.Arms.{gathered_is}
-use Rattle.facts_numbers.proofs.amended_numbers.Goals as goal
-
-pub returns : goal.returns
-returns c = search gathered_is
