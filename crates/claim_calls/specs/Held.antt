@@ -1,5 +1,5 @@
 -- One call by the rules: what a plan stops, and the day that the tables hold after it. Assumes nothing.
-use Rattle.std.specs.Prelude.{ℕ, ◌≡◌, List, length}
+use Rattle.std.specs.Prelude.{ℕ, ◌≡◌, List, Result, Ok, Err, length}
 use Rattle.std.proofs.Math.Option.{Option, none, some}
 use Rattle.rules.specs.Refusal.{refusal_number}
 use Rattle.rules.specs.Day.{Day, refusal_of, tape_of, after}
@@ -8,8 +8,6 @@ use Rattle.rules.specs.declared.Settings.{Settings}
 use Rattle.call_table.specs.Rows.{day_of}
 use Rattle.call_plan.specs.declared.Plan.{Plan}
 use Rattle.call_plan.specs.declared.Plan.TheVariants.{Stop, Open, Enter, Change, Level, Step, Print, Cancel, Correct}
-use Rattle.engine.specs.declared.Outcome.{Outcome}
-use Rattle.engine.specs.declared.Outcome.TheVariants.{Accepted, Refused}
 use Rattle.engine.specs.Taken.{asked, outcome_of, stop_number}
 use Rattle.call_print.specs.Print.{print_of}
 use Rattle.call_state.specs.After.{settings_after, table_after, names_after}
@@ -30,9 +28,9 @@ unfoldable pub day_after : Settings → List ℕ → List ℕ → List ℕ → P
 day_after st table names line p = day_of (settings_after st p) (table_after table p) (names_after names line p)
 
 -- the outcome by the rules: the refusal, or the length of the print
-unfoldable pub outcome_by : Option Refusal → ℕ → Outcome
-outcome_by (some r) n = Refused r
-outcome_by none n = Accepted n
+unfoldable pub outcome_by : Option Refusal → ℕ → Result ℕ Refusal
+outcome_by (some r) n = Err r
+outcome_by none n = Ok n
 
 -- the engine's call is the rules': outcome, refusal with its number, print and state
 pub record ByRules (st : Settings) (table names line : List ℕ) (room : ℕ) : Type 0 where

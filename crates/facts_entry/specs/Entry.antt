@@ -21,8 +21,7 @@ use Rattle.call_plan.specs.declared.Plan.TheVariants.{Stop, Open, Enter, Change,
 use Rattle.facts_entry.specs.declared.Conditions.{Conditions}
 use Rattle.facts_entry.specs.declared.Part.{Part}
 use Rattle.facts_entry.specs.declared.Part.TheVariants.{Full, Bare}
-use Rattle.facts_entry.specs.declared.Volume.{Volume}
-use Rattle.facts_entry.specs.declared.Volume.TheVariants.{Shown, Hidden}
+use Rattle.std.specs.Prelude as std
 use Rattle.facts_entry.specs.declared.Entry.{Entry}
 use Rattle.facts_entry.specs.declared.Entry.TheVariants.{Silent, Announced, Traded, Cancelled, Erred, Corrected}
 
@@ -35,9 +34,9 @@ unfoldable pub part_in : Part → shown.Part
 part_in (Full price x volume) = in_full price (conditions_in x) volume
 part_in (Bare x) = bare (conditions_in x)
 
-unfoldable pub volume_in : Volume → Option ℕ
-volume_in (Shown n) = some n
-volume_in Hidden = none
+unfoldable pub volume_in : std.Option ℕ → Option ℕ
+volume_in (std.Some n) = some n
+volume_in std.None = none
 
 -- the fact that an entry stands for; an announcement's text is the call's print
 unfoldable pub fact_in : List ℕ → Entry → Option Fact
@@ -57,9 +56,9 @@ unfoldable pub part_as : shown.Part → Part
 part_as (in_full price x volume) = Full price (conditions_as x) volume
 part_as (bare x) = Bare (conditions_as x)
 
-unfoldable pub volume_as : Option ℕ → Volume
-volume_as none = Hidden
-volume_as (some n) = Shown n
+unfoldable pub volume_as : Option ℕ → std.Option ℕ
+volume_as none = std.None
+volume_as (some n) = std.Some n
 
 unfoldable pub entry_of : Option Fact → Entry
 entry_of none = Silent

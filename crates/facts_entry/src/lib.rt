@@ -17,7 +17,7 @@ ghost use Rattle.facts_entry.specs.Entry.{conditions_in, part_in, volume_in, fac
 
 use call_plan::{CancelPlan, CorrectionPlan, Plan, TradePlan};
 use call_table::{Names, Table};
-use rules::{Letters, Mode, NAME_WIDTH, Settings, Side};
+use rules::{Letters, Mode, Settings, Side};
 
 // The conditions of a side as they are shown: N as M, C as K; days and previous last 0 for none. Prices are in units of ten
 // to the power -8 dollars.
@@ -35,21 +35,14 @@ pub enum Part {
     Bare(Conditions),
 }
 
-// The volume of a trade, if it is shown.
-#[derive(Clone, Copy)]
-pub enum Volume {
-    Shown(u64),
-    Hidden,
-}
-
-// A trade: its security's number, the temporary suffix shown or not, its price.
+// A trade: its security's number, the temporary suffix shown or not, its price; its volume, if it is shown.
 #[derive(Clone, Copy)]
 pub struct TradeEntry {
     pub security: u64,
     pub temporary: bool,
     pub price: u64,
     pub conditions: Conditions,
-    pub volume: Volume,
+    pub volume: Option<u64>,
 }
 
 // What a line adds: nothing; an announcement, whose text is the print; a trade; a cancel, an error, a correction, with the
@@ -66,59 +59,53 @@ pub enum Entry {
 
 // ---- a side
 
+#[tactic(auto, unfolding(crate::specs::Entry::conditions_in, rules::specs::Shown::conditions_of))]
 fn conditions_of(x: Side) -> Conditions
     requires { Sound x.previous }
     ensures { conditions_in result ≡ conditions_of x }
 {
-    let letters = x.letters;
-    let previous = x.previous;
     Conditions {
-        letters: facts_side::shown_letters(letters),
+        letters: facts_side::shown_letters(x.letters),
         days: x.days,
-        previous: print_price::in_units(previous),
+        previous: print_price::in_units(x.previous),
     }
 }
 
+#[tactic(auto, unfolding(crate::specs::Entry::part_in, rules::specs::Shown::part_of, text::specs::Pick::pick))]
 fn part_of(normal: bool, x: Side) -> Part
     requires { SoundSide x }
     ensures { part_in result ≡ part_of normal x }
 {
     let c = conditions_of(x);
-    if !normal {
-        return Part::Bare(c);
+    if normal {
+        Part::Full(print_price::in_units(x.price), c, x.volume)
+    } else {
+        Part::Bare(c)
     }
-    let price = x.price;
-    let p = print_price::in_units(price);
-    Part::Full(p, c, x.volume)
 }
 
 // ---- a trade
 
 // In normal always; otherwise where it puts characters on the tape.
+#[tactic(auto, using(crate::proofs::Arms::some_bytes), unfolding(crate::specs::Entry::shows_shares))]
 fn shows_shares(st: Settings, t: TradePlan) -> bool
     requires { 1 ≤ t.unit }
     ensures { result ≡ shows_shares st t }
 {
-    let mode = st.mode;
-    let side = t.side;
-    if decide_levels::is_normal(mode) {
-        return true;
-    }
-    if !t.shows {
-        return false;
-    }
-    print_volume::volume_length(t.network, t.unit, side.volume) != 0
+    decide_levels::is_normal(st.mode)
+        || t.shows && print_volume::volume_length(t.network, t.unit, t.side.volume) != 0
 }
 
-fn volume_of(st: Settings, t: TradePlan) -> Volume
+#[tactic(auto, unfolding(crate::specs::Entry::volume_in, crate::specs::Entry::volume_of, text::specs::Pick::pick))]
+fn volume_of(st: Settings, t: TradePlan) -> Option<u64>
     requires { 1 ≤ t.unit }
     ensures { volume_in result ≡ volume_of st t }
 {
-    let side = t.side;
     if shows_shares(st, t) {
-        return Volume::Shown(side.volume);
+        Some(t.side.volume)
+    } else {
+        None
     }
-    Volume::Hidden
 }
 
 // A blank temporary suffix is never shown.
@@ -126,17 +113,12 @@ fn shows_suffix(names: &Names, t: TradePlan) -> bool
     requires { t.place < security_places }
     ensures { result ≡ (t.temporary && has_temporary (name_of names.now t.place)) }
 {
-    if !t.temporary {
-        return false;
-    }
-    let all = &names[..];
-    let from = t.place * NAME_WIDTH;
-    let to = from + NAME_WIDTH;
-    name_text::has_temporary(&all[from..to])
+    t.temporary && name_text::has_temporary(call_table::name_at(names, t.place))
 }
 
 // ---- the entry of a plan
 
+#[tactic(auto, unfolding(crate::specs::Entry::fact_in, crate::specs::Entry::plan_fact, text::specs::Pick::pick))]
 fn trade_entry(st: Settings, names: &Names, t: TradePlan) -> Entry
     requires { SoundTrade t }
     ensures { fact_in (print_of st names.now (Print t)) result ≡ plan_fact st names.now (Print t) }
@@ -144,32 +126,30 @@ fn trade_entry(st: Settings, names: &Names, t: TradePlan) -> Entry
     if !t.prints {
         return Entry::Silent;
     }
-    let side = t.side;
-    let price = side.price;
     Entry::Traded(TradeEntry {
         security: (t.place + 1) as u64,
         temporary: shows_suffix(names, t),
-        price: print_price::in_units(price),
-        conditions: conditions_of(side),
+        price: print_price::in_units(t.side.price),
+        conditions: conditions_of(t.side),
         volume: volume_of(st, t),
     })
 }
 
+#[tactic(auto, unfolding(crate::specs::Entry::fact_in, crate::specs::Entry::plan_fact, text::specs::Pick::pick))]
 fn cancel_entry(st: Settings, names: &Names, t: CancelPlan) -> Entry
     requires { SoundCancel t }
     ensures { fact_in (print_of st names.now (Cancel t)) result ≡ plan_fact st names.now (Cancel t) }
 {
-    let mode = st.mode;
-    let side = t.side;
-    let normal = decide_levels::is_normal(mode);
     let security = (t.place + 1) as u64;
-    let part = part_of(normal, side);
+    let part = part_of(decide_levels::is_normal(st.mode), t.side);
     if t.error {
-        return Entry::Erred(security, part);
+        Entry::Erred(security, part)
+    } else {
+        Entry::Cancelled(security, part)
     }
-    Entry::Cancelled(security, part)
 }
 
+#[tactic(auto, unfolding(crate::specs::Entry::fact_in, crate::specs::Entry::plan_fact, text::specs::Pick::pick))]
 fn correction_entry(st: Settings, names: &Names, c: CorrectionPlan) -> Entry
     requires { SoundCorrection c }
     ensures { fact_in (print_of st names.now (Correct c)) result ≡ plan_fact st names.now (Correct c) }
@@ -177,40 +157,35 @@ fn correction_entry(st: Settings, names: &Names, c: CorrectionPlan) -> Entry
     if !c.prints {
         return Entry::Silent;
     }
-    let mode = st.mode;
-    let original = c.original;
-    let correcting = c.correcting;
-    let normal = decide_levels::is_normal(mode);
+    let normal = decide_levels::is_normal(st.mode);
     let security = (c.place + 1) as u64;
-    let was = part_of(normal, original);
-    let is = part_of(normal, correcting);
-    Entry::Corrected(security, was, is)
+    Entry::Corrected(
+        security,
+        part_of(normal, c.original),
+        part_of(normal, c.correcting),
+    )
 }
 
 // P prints in MPV alone.
+#[tactic(auto, unfolding(crate::specs::Entry::fact_in, rules::specs::Shown::announced_if, rules::specs::Announcement::step_text, rules::specs::Announcement::minimum_text))]
 fn step_entry(m: Mode) -> Entry
     ensures { (n : ℕ) → fact_in (step_text m n) result ≡ announced_if (step_text m n) }
 {
     match m {
-        Mode::Normal => Entry::Silent,
-        Mode::Dvd => Entry::Silent,
-        Mode::Rpo => Entry::Silent,
         Mode::Mpv => Entry::Announced,
+        _ => Entry::Silent,
     }
 }
 
+#[tactic(auto, using(crate::proofs::Arms::announcements), unfolding(crate::specs::Entry::fact_in, crate::specs::Entry::plan_fact, crate::specs::Entry::SoundFact, call_print::specs::Print::print_of, call_print::specs::Print::text_of))]
 fn plan_entry(st: Settings, names: &Names, p: Plan) -> Entry
     requires { SoundFact p }
     ensures { fact_in (print_of st names.now p) result ≡ plan_fact st names.now p }
 {
-    let mode = st.mode;
     match p {
-        Plan::Stop(_) => Entry::Silent,
-        Plan::Open(_) => Entry::Silent,
-        Plan::Enter(_, _) => Entry::Silent,
-        Plan::Change(_) => Entry::Announced,
-        Plan::Level(_) => Entry::Announced,
-        Plan::Step(_) => step_entry(mode),
+        Plan::Stop(_) | Plan::Open(_) | Plan::Enter(_, _) => Entry::Silent,
+        Plan::Change(_) | Plan::Level(_) => Entry::Announced,
+        Plan::Step(_) => step_entry(st.mode),
         Plan::Print(t) => trade_entry(st, names, t),
         Plan::Cancel(t) => cancel_entry(st, names, t),
         Plan::Correct(c) => correction_entry(st, names, c),

@@ -7,24 +7,25 @@ ghost use Rattle.facts_entry.specs.Entry.{conditions_in, part_in, volume_in, fac
 ghost use Rattle.read_numbers.specs.Numbers.{side_numbers, no_side, part_numbers, volume_number, kind_and_sides};
 ghost use Rattle.facts_numbers.specs.Numbers.{entry_numbers};
 
-use facts_entry::{Conditions, Entry, Part, TradeEntry, Volume};
+use facts_entry::{Conditions, Entry, Part, TradeEntry};
 use read_numbers::SideNumbers;
 
 // ---- a side
 
+#[tactic(auto, unfolding(read_numbers::specs::Numbers::side_numbers, facts_entry::specs::Entry::conditions_in))]
 fn side_numbers(price: u64, c: Conditions, volume: u64) -> SideNumbers
     ensures { result ≡ side_numbers price (conditions_in c) volume }
 {
-    let letters = c.letters;
     SideNumbers {
-        price: price,
-        letters: read_numbers::letters_number(letters),
+        price,
+        letters: read_numbers::letters_number(c.letters),
         days: c.days,
         previous: c.previous,
-        volume: volume,
+        volume,
     }
 }
 
+#[tactic(auto, unfolding(read_numbers::specs::Numbers::part_numbers, facts_entry::specs::Entry::part_in))]
 fn part_numbers(x: Part) -> SideNumbers
     ensures { result ≡ part_numbers (part_in x) }
 {
@@ -34,25 +35,14 @@ fn part_numbers(x: Part) -> SideNumbers
     }
 }
 
-fn volume_number(v: Volume) -> u64
+#[tactic(auto, using(crate::proofs::Arms::volume_is))]
+fn volume_number(v: Option<u64>) -> u64
     ensures { result ≡ volume_number (volume_in v) }
 {
-    match v {
-        Volume::Shown(n) => n,
-        Volume::Hidden => 0,
-    }
+    v.unwrap_or(0)
 }
 
 // ---- an entry
-
-fn flag(b: bool) -> u64
-    ensures { result ≡ pick b 1 0 }
-{
-    if b {
-        return 1;
-    }
-    0
-}
 
 fn gathered(security: u64, temporary: u64, kind: u64, x: SideNumbers, y: SideNumbers) -> [u64; 13]
     ensures { result ≡ security ∷ temporary ∷ kind_and_sides kind x y }
@@ -70,15 +60,18 @@ fn plain_numbers(kind: u64) -> [u64; 13]
     gathered(0, 0, kind, read_numbers::no_side(), read_numbers::no_side())
 }
 
+#[tactic(auto, unfolding(text::specs::Pick::pick))]
 fn trade_numbers(t: TradeEntry) -> [u64; 13]
     ensures { result ≡ t.security ∷ pick t.temporary 1 0 ∷ kind_and_sides 84 (side_numbers t.price (conditions_in t.conditions) (volume_number (volume_in t.volume))) no_side }
 {
-    let c = t.conditions;
-    let v = t.volume;
-    let volume = volume_number(v);
-    let temporary = flag(t.temporary);
-    let x = side_numbers(t.price, c, volume);
-    gathered(t.security, temporary, 84, x, read_numbers::no_side())
+    let x = side_numbers(t.price, t.conditions, volume_number(t.volume));
+    gathered(
+        t.security,
+        u64::from(t.temporary),
+        84,
+        x,
+        read_numbers::no_side(),
+    )
 }
 
 // A cancel or an error.
@@ -95,6 +88,7 @@ fn correction_numbers(security: u64, x: Part, y: Part) -> [u64; 13]
 }
 
 // The entry's numbers, whatever the text of an announcement.
+#[tactic(auto, unfolding(crate::specs::Numbers::entry_numbers, facts_entry::specs::Entry::fact_in))]
 pub fn numbers_of(e: Entry) -> [u64; 13]
     ensures { (text : List ℕ) → result ≡ entry_numbers (fact_in text e) }
 {
