@@ -16,8 +16,7 @@ use Rattle.rules.specs.declared.Refusal.{Refusal}
 use Rattle.rules.specs.declared.Refusal.TheVariants.{Shape, Kind, Form, Value}
 use Rattle.rules.specs.declared.Settings.{Settings}
 use Rattle.call_table.specs.Sizes.{table_size, names_size}
-use Rattle.line_kinds.specs.declared.Reading as dayline
-use Rattle.line_kinds.specs.declared.Reading.TheVariants as reading
+use Rattle.std.specs.Prelude.{Result, Ok, Err}
 use Rattle.line_kinds.specs.Fields.{reading_of}
 use Rattle.call_table.specs.Rows.{row, day_of}
 use Rattle.call_table.proofs.Held.{held_security}
@@ -36,7 +35,7 @@ use Rattle.explain_fate.proofs.Fates.{number_small}
 
 -- ---- a line as it is read
 
-asks : (b : Bool) (r : Refusal) (d : dayline.Reading) → (b ≡ false → SoundReading d) → SoundReading (pick b (reading.Refused r) d)
+asks : (b : Bool) (r : Refusal) (d : Result Line Refusal) → (b ≡ false → SoundReading d) → SoundReading (pick b (Err r) d)
 unfolding pick SoundReading
 asks true r d h = tt
 asks false r d h = h refl
@@ -45,24 +44,24 @@ sound_read : (line : List ℕ) → SoundReading (reading_of line)
 unfolding reading_of SoundReading
 sound_read line = asks _ _ _ (λ e. asks _ _ _ (λ f. asks _ _ _ (λ g. asks _ _ _ (λ h. owed_line line (not-false _ h)))))
 
-pub sound_reading : (line : List ℕ) (d : dayline.Reading) → d ≡ reading_of line → SoundReading d
+pub sound_reading : (line : List ℕ) (d : Result Line Refusal) → d ≡ reading_of line → SoundReading d
 sound_reading line d e = rw e (sound_read line)
 
 security_read : (line : List ℕ) → read_security (reading_of line) ≡ security_in line
 unfolding reading_of read_security security_in pick
 security_read line = go (is_shaped line) (is_kind (column 1 line)) (is_formed line) (is_ranged line)
   where
-    go : (a b c d : Bool) → read_security (pick (not a) (reading.Refused Shape) (pick (not b) (reading.Refused Kind) (pick (not c) (reading.Refused Form) (pick (not d) (reading.Refused Value) (reading.Taken (line_of line)))))) ≡ pick (a && (b && (c && d))) (security_of (line_of line)) 0
+    go : (a b c d : Bool) → read_security (pick (not a) (Err Shape) (pick (not b) (Err Kind) (pick (not c) (Err Form) (pick (not d) (Err Value) (Ok (line_of line)))))) ≡ pick (a && (b && (c && d))) (security_of (line_of line)) 0
     go false b c d = refl
     go true false c d = refl
     go true true false d = refl
     go true true true false = refl
     go true true true true = refl
 
-reading_small : (d : dayline.Reading) → SoundReading d → read_security d ≤ 512
+reading_small : (d : Result Line Refusal) → SoundReading d → read_security d ≤ 512
 unfolding SoundReading read_security
-reading_small (reading.Refused r) h = omega arith
-reading_small (reading.Taken l) h = number_small l h
+reading_small (Err r) h = omega arith
+reading_small (Ok l) h = number_small l h
 
 -- the security of an explanation is one of the table's
 pub explained_small : (day : Day) (c : Call) → (explained_by day c).security ≤ 512
@@ -71,7 +70,7 @@ explained_small day c = rw (← security_read c.line) (reading_small (reading_of
 
 -- ---- a line that nothing stops
 
-taken : (day : Day) (line : List ℕ) (room : ℕ) → refusal_of day line room ≡ none → reading_of line ≡ reading.Taken (line_of line)
+taken : (day : Day) (line : List ℕ) (room : ℕ) → refusal_of day line room ≡ none → reading_of line ≡ Ok (line_of line)
 unfolding reading_of pick
 taken day line room h = let a = accepted day line room h in rw (a.shaped, a.known, a.formed, a.ranged)
 
@@ -109,7 +108,7 @@ module _ (st : Settings) (table names : List ℕ) where
           let e = (by_rules st table names line room rows places).refusal_is in
           fate_by_lem (stop_of (asked st table names line room)) e ∙ ap (λ (o : Option Refusal). elim o [ some r ↦ Refused r | none ↦ fate_of day (line_of line) ]) (sym e)
 
-      pub told : (p : Plan) (d : dayline.Reading) (f g : Fate) (kind security : ℕ) → p ≡ asked st table names line room → d ≡ reading_of line → f ≡ read_fate st table d
+      pub told : (p : Plan) (d : Result Line Refusal) (f g : Fate) (kind security : ℕ) → p ≡ asked st table names line room → d ≡ reading_of line → f ≡ read_fate st table d
           → kind ≡ kind_in line → security ≡ read_security d → g ≡ fate_if (stop_of p) f
           → record { kind = kind; security = security; fate = g } ≡ explained_by day (record { line = line; room = room })
       unfolding explained_by

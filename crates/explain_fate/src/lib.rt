@@ -13,7 +13,6 @@ ghost use Rattle.explain_fate.specs.Read.{read_security, read_fate, fate_if, Sou
 use call_plan::Plan;
 use call_table::{Names, Table};
 use explain_reasons::{FullReasons, PrintReasons, VolumeReasons};
-use line_kinds::Reading;
 use rules::{Correction, Line, Mode, Refusal, Security, Settings, Trade};
 
 // Why a line prints, why its price is in full, why its volume is shown.
@@ -46,6 +45,7 @@ pub struct Explanation {
 
 // ---- an accepted line, by settings and its security
 
+#[tactic(auto, unfolding(crate::specs::Explained::trade_fate, text::specs::Pick::pick))]
 fn trade_fate(st: Settings, s: Security, t: Trade) -> Fate
     requires { OwedTrade t }
     ensures { result ≡ trade_fate st s t }
@@ -62,6 +62,7 @@ fn trade_fate(st: Settings, s: Security, t: Trade) -> Fate
 }
 
 // A cancel or an error: they always print.
+#[tactic(auto, unfolding(crate::specs::Explained::cancel_fate))]
 fn cancel_fate(st: Settings, s: Security, t: Trade) -> Fate
     requires { OwedTrade t }
     ensures { result ≡ cancel_fate st s t }
@@ -74,6 +75,7 @@ fn cancel_fate(st: Settings, s: Security, t: Trade) -> Fate
     })
 }
 
+#[tactic(auto, unfolding(crate::specs::Explained::correction_fate, text::specs::Pick::pick))]
 fn correction_fate(st: Settings, s: Security, c: Correction) -> Fate
     requires { OwedCorrection c }
     ensures { result ≡ correction_fate st s c }
@@ -91,47 +93,42 @@ fn correction_fate(st: Settings, s: Security, c: Correction) -> Fate
 }
 
 // P prints in MPV alone.
+#[tactic(auto, unfolding(crate::specs::Explained::step_fate, text::specs::Pick::pick))]
 fn step_fate(m: Mode) -> Fate
     ensures { result ≡ step_fate m }
 {
     if decide_correction::is_mpv(m) {
-        return Fate::Announced;
+        Fate::Announced
+    } else {
+        Fate::Accepted
     }
-    Fate::Accepted
 }
 
+#[tactic(auto, unfolding(crate::specs::Explained::fate_at, line_owed::specs::Owed::OwedLine))]
 fn fate_at(st: Settings, s: Security, l: Line) -> Fate
     requires { OwedLine l }
     ensures { result ≡ fate_at st s l }
 {
-    let mode = st.mode;
     match l {
-        Line::Dated(_) => Fate::Accepted,
-        Line::Listed(_) => Fate::Accepted,
-        Line::Moded(_) => Fate::Announced,
-        Line::Leveled(_) => Fate::Announced,
-        Line::Stepped(_) => step_fate(mode),
+        Line::Dated(_) | Line::Listed(_) => Fate::Accepted,
+        Line::Moded(_) | Line::Leveled(_) => Fate::Announced,
+        Line::Stepped(_) => step_fate(st.mode),
         Line::Traded(t) => trade_fate(st, s, t),
-        Line::Cancelled(t) => cancel_fate(st, s, t),
-        Line::Erred(t) => cancel_fate(st, s, t),
+        Line::Cancelled(t) | Line::Erred(t) => cancel_fate(st, s, t),
         Line::Corrected(c) => correction_fate(st, s, c),
     }
 }
 
 // ---- a line as it is read
 
+#[tactic(auto, unfolding(crate::specs::Explained::security_of))]
 fn security_of(l: Line) -> u64
     ensures { result ≡ security_of l }
 {
     match l {
-        Line::Dated(_) => 0,
+        Line::Dated(_) | Line::Moded(_) | Line::Leveled(_) | Line::Stepped(_) => 0,
         Line::Listed(x) => x.number,
-        Line::Moded(_) => 0,
-        Line::Leveled(_) => 0,
-        Line::Stepped(_) => 0,
-        Line::Traded(t) => t.security,
-        Line::Cancelled(t) => t.security,
-        Line::Erred(t) => t.security,
+        Line::Traded(t) | Line::Cancelled(t) | Line::Erred(t) => t.security,
         Line::Corrected(c) => c.security,
     }
 }
@@ -141,41 +138,40 @@ fn place_of(number: u64) -> usize
     requires { number ≤ security_places }
     ensures { result ≡ number - 1 }
 {
-    if number == 0 {
-        return 0;
-    }
-    (number - 1) as usize
+    number.saturating_sub(1) as usize
 }
 
 fn line_fate(st: Settings, table: &Table, l: Line) -> Fate
     requires { OwedLine l }
     ensures { result ≡ fate_at st (row table.now (security_of l - 1)) l }
 {
-    let number = security_of(l);
-    let place = place_of(number);
+    let place = place_of(security_of(l));
     let s = call_table::load(table, place);
     fate_at(st, s, l)
 }
 
-fn read_fate(st: Settings, table: &Table, reading: Reading) -> Fate
+#[tactic(auto, unfolding(crate::specs::Read::read_fate, crate::specs::Read::SoundReading))]
+fn read_fate(st: Settings, table: &Table, reading: Result<Line, Refusal>) -> Fate
     requires { SoundReading reading }
     ensures { result ≡ read_fate st table.now reading }
 {
     match reading {
-        Reading::Refused(r) => Fate::Refused(r),
-        Reading::Taken(l) => line_fate(st, table, l),
+        Ok(l) => line_fate(st, table, l),
+        Err(r) => Fate::Refused(r),
     }
 }
 
-fn read_security(reading: Reading) -> u64
+#[tactic(auto, unfolding(crate::specs::Read::read_security))]
+fn read_security(reading: Result<Line, Refusal>) -> u64
     ensures { result ≡ read_security reading }
 {
     match reading {
-        Reading::Refused(_) => 0,
-        Reading::Taken(l) => security_of(l),
+        Ok(l) => security_of(l),
+        Err(_) => 0,
     }
 }
 
+#[tactic(auto, unfolding(crate::specs::Explained::kind_in, text::specs::Pick::pick))]
 fn kind_of(line: &[u8]) -> u8
     ensures { result ≡ kind_in line.now }
 {
@@ -183,26 +179,21 @@ fn kind_of(line: &[u8]) -> u8
         return b'-';
     }
     let kind = line[0];
-    if !line_fields::is_kind(kind) {
-        return b'-';
+    if line_fields::is_kind(kind) {
+        kind
+    } else {
+        b'-'
     }
-    kind
 }
 
 // What the plan stops is refused; the rest is as the line is read.
+#[tactic(auto, unfolding(claim_calls::specs::Held::stop_of, crate::specs::Read::fate_if))]
 fn fate_of(p: Plan, taken: Fate) -> Fate
     ensures { result ≡ fate_if (stop_of p) taken }
 {
     match p {
         Plan::Stop(r) => Fate::Refused(r),
-        Plan::Open(_) => taken,
-        Plan::Enter(_, _) => taken,
-        Plan::Change(_) => taken,
-        Plan::Level(_) => taken,
-        Plan::Step(_) => taken,
-        Plan::Print(_) => taken,
-        Plan::Cancel(_) => taken,
-        Plan::Correct(_) => taken,
+        _ => taken,
     }
 }
 
@@ -223,10 +214,9 @@ pub fn explain_line(
     let _places = &names[..];
     let p = engine::ask_line(st, table, names, line, room);
     let reading = line_kinds::read_line(line);
-    let taken = read_fate(st, table, reading);
     Explanation {
         kind: kind_of(line),
         security: read_security(reading),
-        fate: fate_of(p, taken),
+        fate: fate_of(p, read_fate(st, table, reading)),
     }
 }

@@ -7,8 +7,7 @@ use Rattle.facts_entry.specs.Entry.{conditions_in, part_in, volume_in, fact_in}
 use Rattle.facts_entry.specs.declared.Conditions.{Conditions}
 use Rattle.facts_entry.specs.declared.Part.{Part}
 use Rattle.facts_entry.specs.declared.Part.TheVariants.{Full, Bare}
-use Rattle.facts_entry.specs.declared.Volume.{Volume}
-use Rattle.facts_entry.specs.declared.Volume.TheVariants.{Shown, Hidden}
+use Rattle.std.specs.Prelude.{Option, Some, None}
 use Rattle.facts_entry.specs.declared.TradeEntry.{TradeEntry}
 use Rattle.facts_entry.specs.declared.Entry.{Entry}
 use Rattle.facts_entry.specs.declared.Entry.TheVariants.{Silent, Announced, Traded, Cancelled, Erred, Corrected}
@@ -27,12 +26,12 @@ module _ (x : Part) where
   unfolding part_text part_in conditions_in
   part_bare c e = rw e
 
-module _ (v : Volume) where
-  pub volume_shown : (n : ℕ) → v ≡ Shown n → volume_text (volume_in v) ≡ decimal n
+module _ (v : Option ℕ) where
+  pub volume_shown : (n : ℕ) → v ≡ Some n → volume_text (volume_in v) ≡ decimal n
   unfolding volume_text volume_in
   volume_shown n e = rw e
 
-  pub volume_hidden : v ≡ Hidden → volume_text (volume_in v) ≡ bytes "-"
+  pub volume_hidden : v ≡ None → volume_text (volume_in v) ≡ bytes "-"
   unfolding volume_text volume_in
   volume_hidden e = rw e
 

@@ -14,7 +14,7 @@ ghost use Rattle.facts_entry.specs.Entry.{conditions_in, part_in, volume_in, fac
 ghost use Rattle.facts_side.specs.Sides.{part_text, volume_text};
 ghost use Rattle.facts_line.specs.Lines.{flag_text, trade_head, trade_tail, trade_text, sided_text, amended_text, correction_text, announced_text, line_of};
 
-use facts_entry::{Conditions, Entry, Part, TradeEntry, Volume};
+use facts_entry::{Conditions, Entry, Part, TradeEntry};
 
 // ---- a side
 
@@ -32,24 +32,26 @@ fn write_part(rest: &mut [u8], x: Part) -> usize
 
 // ---- a line
 
-fn write_volume(rest: &mut [u8], v: Volume) -> usize
+fn write_volume(rest: &mut [u8], v: Option<u64>) -> usize
     requires { length (volume_text (volume_in v)) ≤ length rest.old }
     ensures { Written (volume_text (volume_in v)) rest.old rest.new result }
 {
     match v {
-        Volume::Shown(n) => text::write_decimal(rest, n),
-        Volume::Hidden => text::write_bytes(rest, b"-"),
+        Some(n) => text::write_decimal(rest, n),
+        None => text::write_bytes(rest, b"-"),
     }
 }
 
+#[tactic(auto, unfolding(crate::specs::Lines::flag_text, text::specs::Pick::pick))]
 fn write_flag(rest: &mut [u8], b: bool) -> usize
     requires { length (flag_text b) ≤ length rest.old }
     ensures { Written (flag_text b) rest.old rest.new result }
 {
     if b {
-        return text::write_bytes(rest, b"1");
+        text::write_bytes(rest, b"1")
+    } else {
+        text::write_bytes(rest, b"0")
     }
-    text::write_bytes(rest, b"0")
 }
 
 fn write_trade_head(rest: &mut [u8], security: u64, temporary: bool) -> usize
@@ -62,13 +64,12 @@ fn write_trade_head(rest: &mut [u8], security: u64, temporary: bool) -> usize
     k + write_flag(&mut rest[k..], temporary)
 }
 
-fn write_trade_tail(rest: &mut [u8], price: u64, c: Conditions, v: Volume) -> usize
+fn write_trade_tail(rest: &mut [u8], price: u64, c: Conditions, v: Option<u64>) -> usize
     requires { length (trade_tail price (conditions_in c) (volume_in v)) ≤ length rest.old }
     ensures { Written (trade_tail price (conditions_in c) (volume_in v)) rest.old rest.new result }
 {
-    let letters = c.letters;
     let i = text::write_bytes(rest, b" ");
-    let j = i + facts_side::write_priced(&mut rest[i..], price, letters, c.days, c.previous);
+    let j = i + facts_side::write_priced(&mut rest[i..], price, c.letters, c.days, c.previous);
     let k = j + text::write_bytes(&mut rest[j..], b" vol=");
     k + write_volume(&mut rest[k..], v)
 }
@@ -77,10 +78,8 @@ fn write_trade(rest: &mut [u8], t: TradeEntry) -> usize
     requires { length (trade_text t.security t.temporary t.price (conditions_in t.conditions) (volume_in t.volume)) ≤ length rest.old }
     ensures { Written (trade_text t.security t.temporary t.price (conditions_in t.conditions) (volume_in t.volume)) rest.old rest.new result }
 {
-    let c = t.conditions;
-    let v = t.volume;
     let i = write_trade_head(rest, t.security, t.temporary);
-    let j = i + write_trade_tail(&mut rest[i..], t.price, c, v);
+    let j = i + write_trade_tail(&mut rest[i..], t.price, t.conditions, t.volume);
     j + text::write_bytes(&mut rest[j..], b"\n")
 }
 

@@ -8,8 +8,8 @@ write_decimal-requires c = search (fits, parts)
 pub write_bytes-requires : goal.write_bytes-requires
 write_bytes-requires c = search (fits, parts)
 
-pub returns-in-Shown : goal.returns-in-Shown
-returns-in-Shown c = search (named, parts)
+pub returns-in-Some : goal.returns-in-Some
+returns-in-Some c = search (named, parts)
 
-pub returns-in-Hidden : goal.returns-in-Hidden
-returns-in-Hidden c = search (named, parts)
+pub returns-in-None : goal.returns-in-None
+returns-in-None c = search (named, parts)
