@@ -2,20 +2,15 @@
 use Prim.Native.Nat.{ℕ}
 use mathlib.Core.Path.{◌≡◌, ◌∙◌, ap}
 use mathlib.Core.List.{List}
-use lib.ListN.{get_or}
 use Rattle.rules.specs.Day.{tape_of}
-use Rattle.rules.specs.Line.{mode_of}
 use Rattle.rules.specs.Refusal.{number_of}
 use Rattle.rules.specs.Shown.{shown_by}
-use Rattle.rules.specs.declared.Mode.{Mode}
 use Rattle.rules.specs.declared.Refusal.{Refusal}
 use Rattle.rules.specs.declared.Settings.{Settings}
 use Rattle.call_table.specs.Rows.{day_of}
 use Rattle.facts_entry.specs.declared.Entry.{Entry}
 use Rattle.facts_entry.specs.Entry.{fact_in}
 use Rattle.facts_numbers.specs.Numbers.{entry_numbers}
-use Rattle.engine.specs.declared.Outcome.{Outcome}
-use Rattle.engine.specs.declared.Outcome.TheVariants.{Accepted}
 use Rattle.engine.specs.declared.Answer.{Answer}
 use Rattle.engine.specs.Taken.{Taken, answer_of, count_of}
 use Rattle.reader.specs.declared.ReadAnswer.{ReadAnswer}
@@ -26,14 +21,8 @@ use Rattle.read_numbers.specs.Numbers.{numbers_at}
 use Rattle.exports.specs.Numbers.{numbers_of, settings_of, left_by, TakenNumbers}
 use Rattle.exports.specs.Reading.{ReadNumbers}
 
-pub settings_are : (numbers : List ℕ) (m : Mode) → m ≡ mode_of (get_or numbers 1 0) → ◌≡◌ {A = Settings} (record { date = get_or numbers 0 0; mode = m; level = get_or numbers 2 0; minimum = get_or numbers 3 0 }) (settings_of numbers)
-settings_are numbers m e = rw e
-
 pub numbers_are : (st after : Settings) (numbers' : List ℕ) → st ≡ after → numbers' ≡ numbers_of st → numbers' ≡ numbers_of after
 numbers_are st after numbers' e f = rw (← e) f
-
-pub left_accepted : (o : Outcome) (n : ℕ) (numbers numbers' : List ℕ) (st : Settings) → o ≡ Accepted n → numbers' ≡ numbers_of st → numbers' ≡ left_by o numbers st
-left_accepted o n numbers numbers' st e f = rw e f
 
 -- the engine's call on the settings that the numbers are
 pub taken_numbers : (numbers table names line tape numbers' table' names' tape' : List ℕ) (count answer : ℕ) (st : Settings) (a : Answer)

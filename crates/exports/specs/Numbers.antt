@@ -1,12 +1,11 @@
 -- A day's settings as four numbers, and one call of the engine on them. Assumes nothing.
-use Rattle.std.specs.Prelude.{ℕ, ◌≡◌, List, [], ◌∷◌, length, get_or}
+use Rattle.std.specs.Prelude.{ℕ, ◌≡◌, List, [], ◌∷◌, Result, Ok, Err, length, get_or}
 use Rattle.text.specs.Put.{put}
 use Rattle.rules.specs.Line.{mode_of}
 use Rattle.rules.specs.declared.Mode.{Mode}
 use Rattle.rules.specs.declared.Mode.TheVariants.{Normal, Dvd, Rpo, Mpv}
 use Rattle.rules.specs.declared.Settings.{Settings}
-use Rattle.engine.specs.declared.Outcome.{Outcome}
-use Rattle.engine.specs.declared.Outcome.TheVariants.{Accepted, Refused}
+use Rattle.rules.specs.declared.Refusal.{Refusal}
 use Rattle.engine.specs.Taken.{asked, outcome_of, answer_of, count_of}
 use Rattle.call_print.specs.Print.{print_of}
 use Rattle.call_state.specs.After.{settings_after, table_after, names_after}
@@ -30,12 +29,12 @@ settings_of numbers = record { date = get_or numbers 0 0; mode = mode_of (get_or
 -- ---- an answer
 
 -- a refused line leaves the four numbers as they are
-abbrev pub left_by : Outcome → List ℕ → Settings → List ℕ
-left_by (Accepted n) numbers st = numbers_of st
-left_by (Refused r) numbers st = numbers
+abbrev pub left_by : Result ℕ Refusal → List ℕ → Settings → List ℕ
+left_by (Ok n) numbers st = numbers_of st
+left_by (Err r) numbers st = numbers
 
 -- the outcome of a call that is lent these settings, tables, line and tape
-abbrev pub outcome_at : List ℕ → List ℕ → List ℕ → List ℕ → List ℕ → Outcome
+abbrev pub outcome_at : List ℕ → List ℕ → List ℕ → List ℕ → List ℕ → Result ℕ Refusal
 outcome_at numbers table names line tape =
     let p = asked (settings_of numbers) table names line (length tape) in
     outcome_of p (length (print_of (settings_of numbers) names p))

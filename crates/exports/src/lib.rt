@@ -5,7 +5,6 @@
 ghost use Rattle.std.specs.Prelude.{◌≡◌};
 ghost use Rattle.rules.specs.Day.{opened};
 ghost use Rattle.rules.specs.Shown.{shown_by};
-ghost use Rattle.rules.specs.Line.{mode_of};
 ghost use Rattle.call_table.specs.Rows.{day_of};
 ghost use Rattle.facts_numbers.specs.Numbers.{entry_numbers};
 ghost use Rattle.exports.specs.Numbers.{letter_of, numbers_of, settings_of, left_by, TakenNumbers};
@@ -30,28 +29,12 @@ fn letter_of(m: Mode) -> u64
     }
 }
 
-fn mode_of(c: u64) -> Mode
-    ensures { result ≡ mode_of c }
-{
-    if c == 68 {
-        return Mode::Dvd;
-    }
-    if c == 82 {
-        return Mode::Rpo;
-    }
-    if c == 80 {
-        return Mode::Mpv;
-    }
-    Mode::Normal
-}
-
 fn settings_of(numbers: &[u64; 4]) -> Settings
     ensures { result ≡ settings_of numbers.now }
 {
-    let mode = mode_of(numbers[1]);
     Settings {
         date: numbers[0],
-        mode: mode,
+        mode: Mode::of_letter(numbers[1]),
         level: numbers[2],
         minimum: numbers[3],
     }
@@ -60,15 +43,14 @@ fn settings_of(numbers: &[u64; 4]) -> Settings
 fn numbers_of(st: Settings) -> [u64; 4]
     ensures { result ≡ numbers_of st }
 {
-    let mode = st.mode;
-    [st.date, letter_of(mode), st.level, st.minimum]
+    [st.date, letter_of(st.mode), st.level, st.minimum]
 }
 
 // Settings are written only where the line is accepted.
 fn leave(numbers: &mut [u64; 4], o: Outcome, st: Settings)
     ensures { numbers.new ≡ left_by o numbers.old st }
 {
-    if let Outcome::Accepted(_) = o {
+    if o.is_ok() {
         *numbers = numbers_of(st);
     }
 }
@@ -109,11 +91,9 @@ pub fn lekphimon_take_line(
 {
     let st = settings_of(settings);
     let answer = engine::take_line(st, table, names, line, tape);
-    let outcome = answer.outcome;
-    let after = answer.settings;
-    leave(settings, outcome, after);
-    *count = engine::count_of(outcome) as u64;
-    engine::answer_of(outcome)
+    leave(settings, answer.outcome, answer.settings);
+    *count = engine::count_of(answer.outcome) as u64;
+    engine::answer_of(answer.outcome)
 }
 
 // What a call of `lekphimon_take_line` with this line and a tape of `room` bytes would add to the shown facts: the thirteen
