@@ -13,8 +13,8 @@ ghost use Rattle.line_owed.specs.Owed.{OwedListing, OwedTrade, OwedCorrection, O
 
 use call_table::{Names, Table};
 use rules::{
-    Correction, Counts, Issue, Line, Listing, Mode, NAME_WIDTH, PLACES, PriceForm, Printed, Range,
-    Refusal, Security, Settings, Side, Trade, WIDTH,
+    Correction, Counts, Issue, Line, Listing, Mode, PLACES, PriceForm, Printed, Range, Refusal,
+    Security, Settings, Side, Trade, WIDTH,
 };
 
 // What an accepted trade prints, and the security after it.
@@ -58,6 +58,7 @@ pub struct CorrectionPlan {
 }
 
 // What a line asks for, or the refusal that stops it.
+// Kept: `Stop` is one of the cases and no Err, since what it prints and leaves is asked of every plan alike.
 #[derive(Clone, Copy)]
 pub enum Plan {
     Stop(Refusal),
@@ -73,32 +74,29 @@ pub enum Plan {
 
 // ---- the plan
 
+#[tactic(auto, unfolding(rules::specs::Line::is_shaped))]
 pub fn is_shaped(line: &[u8]) -> bool
     ensures { result ≡ is_shaped line.now }
 {
-    if line.len() != WIDTH {
-        return false;
-    }
-    line_fields::is_printable_text(line)
+    line.len() == WIDTH && line_fields::is_printable_text(line)
 }
 
 // Not a D, and no D accepted yet.
 fn is_undated(st: Settings, kind: u8) -> bool
     ensures { result ≡ (not (eqb kind 68) && eqb st.date 0) }
 {
-    if kind == b'D' {
-        return false;
-    }
-    st.date == 0
+    kind != b'D' && st.date == 0
 }
 
+#[tactic(auto, unfolding(crate::specs::Plan::date_plan, text::specs::Pick::pick))]
 fn date_plan(st: Settings, n: u64) -> Plan
     ensures { result ≡ date_plan st n }
 {
     if n <= st.date {
-        return Plan::Stop(Refusal::DateOrder);
+        Plan::Stop(Refusal::DateOrder)
+    } else {
+        Plan::Open(n)
     }
-    Plan::Open(n)
 }
 
 // The name at place i is that of an entered security, and the same as the given one.
@@ -106,31 +104,24 @@ fn is_taken_at(table: &Table, names: &Names, i: usize, name: &[u8]) -> bool
     requires { (i < security_places) × (length name.now ≡ name_width) }
     ensures { result ≡ (is_entered (row table.now i) && same_name name.now (name_of names.now i)) }
 {
-    let s = call_table::load(table, i);
-    if !decide_letters::is_entered(s) {
-        return false;
-    }
-    let all = &names[..];
-    let from = i * NAME_WIDTH;
-    let to = from + NAME_WIDTH;
-    name_text::same_name(name, &all[from..to])
+    decide_letters::is_entered(call_table::load(table, i))
+        && name_text::same_name(name, call_table::name_at(names, i))
 }
 
 fn is_name_taken(table: &Table, names: &Names, name: &[u8]) -> bool
     requires { length name.now ≡ name_width }
     ensures { result ≡ taken_name name.now (rows_from security_places 0 table.now) (names_from security_places 0 names.now) }
 {
-    let mut i = 0;
-    while i < PLACES {
+    for i in 0..PLACES {
         if is_taken_at(table, names, i, name) {
             return true;
         }
-        i += 1;
     }
     false
 }
 
 // A security before its first trade.
+#[tactic(auto, unfolding(rules::specs::Day::entered))]
 fn entered_as(l: Listing) -> Security
     ensures { result ≡ entered l }
 {
@@ -155,6 +146,7 @@ fn entered_as(l: Listing) -> Security
     }
 }
 
+#[tactic(auto, unfolding(crate::specs::Plan::listing_plan, text::specs::Pick::pick))]
 fn listing_plan(table: &Table, names: &Names, name: &[u8], l: Listing) -> Plan
     requires { OwedListing l × (length name.now ≡ name_width) }
     ensures { result ≡ listing_plan table.now names.now name.now l }
@@ -178,13 +170,11 @@ fn print_plan(st: Settings, s: Security, t: Trade) -> TradePlan
     ensures { result ≡ print_plan st s t }
 {
     let x = t.side;
-    let letters = x.letters;
-    let price = x.price;
-    let value = print_price::in_units(price);
-    let whole = print_price::whole_part(price);
-    let ranges = decide_letters::for_range(letters);
-    let lasts = decide_letters::for_last(letters);
-    let rule = decide_letters::has_rule(letters);
+    let value = print_price::in_units(x.price);
+    let whole = print_price::whole_part(x.price);
+    let ranges = decide_letters::for_range(x.letters);
+    let lasts = decide_letters::for_last(x.letters);
+    let rule = decide_letters::has_rule(x.letters);
     let prints = decide_trade::prints_by(st, s, t.market, x.volume, value, ranges, lasts, rule);
     TradePlan {
         place: (t.security - 1) as usize,
@@ -192,7 +182,7 @@ fn print_plan(st: Settings, s: Security, t: Trade) -> TradePlan
         network: s.issue.network,
         unit: s.issue.unit,
         temporary: decide_letters::shows_temporary(s),
-        prints: prints,
+        prints,
         form: decide_trade::form_by(st, s, t.market, whole),
         shows: decide_trade::shows_by(st, s, t.market, x.volume, lasts, rule),
         after: decide_trade::after_by(s, t.market, value, prints, ranges, lasts),
@@ -202,15 +192,11 @@ fn print_plan(st: Settings, s: Security, t: Trade) -> TradePlan
 fn is_lawful(s: Security, t: Trade) -> bool
     ensures { result ≡ is_lawful s t }
 {
-    let x = t.side;
-    let letters = x.letters;
-    if !t.lawful {
-        return false;
-    }
-    decide_letters::on_network(s.issue.network, letters)
+    t.lawful && decide_letters::on_network(s.issue.network, t.side.letters)
 }
 
 // T, X, E, C: refusals 6, 10 and 11, then what the line asks for.
+#[tactic(auto, unfolding(crate::specs::Plan::unless_stopped, text::specs::Pick::pick))]
 fn unless_stopped(s: Security, lawful: bool, matched: bool, p: Plan) -> Plan
     ensures { result ≡ unless_stopped s lawful matched p }
 {
@@ -226,6 +212,7 @@ fn unless_stopped(s: Security, lawful: bool, matched: bool, p: Plan) -> Plan
     p
 }
 
+#[tactic(auto, unfolding(crate::specs::Plan::trade_plan))]
 fn trade_plan(st: Settings, s: Security, t: Trade) -> Plan
     requires { OwedTrade t }
     ensures { result ≡ trade_plan st s t }
@@ -242,27 +229,27 @@ fn trade_at(st: Settings, table: &Table, t: Trade) -> Plan
     requires { OwedTrade t }
     ensures { result ≡ trade_plan st (row table.now (t.security - 1)) t }
 {
-    let place = (t.security - 1) as usize;
-    let s = call_table::load(table, place);
+    let s = call_table::load(table, (t.security - 1) as usize);
     trade_plan(st, s, t)
 }
 
+#[tactic(auto, unfolding(crate::specs::Plan::cancel_of))]
 fn cancel_of(error: bool, st: Settings, s: Security, t: Trade) -> CancelPlan
     requires { OwedTrade t }
     ensures { result ≡ cancel_of error st s t }
 {
-    let x = t.side;
     CancelPlan {
-        error: error,
+        error,
         place: (t.security - 1) as usize,
-        side: x,
+        side: t.side,
         network: s.issue.network,
         unit: s.issue.unit,
-        form: decide_correction::cancel_form(st, s, x),
-        shows: decide_correction::cancel_shows(st, x),
+        form: decide_correction::cancel_form(st, s, t.side),
+        shows: decide_correction::cancel_shows(st, t.side),
     }
 }
 
+#[tactic(auto, unfolding(crate::specs::Plan::cancel_plan))]
 fn cancel_plan(error: bool, st: Settings, s: Security, t: Trade) -> Plan
     requires { OwedTrade t }
     ensures { result ≡ cancel_plan error st s t }
@@ -279,11 +266,11 @@ fn cancel_at(error: bool, st: Settings, table: &Table, t: Trade) -> Plan
     requires { OwedTrade t }
     ensures { result ≡ cancel_plan error st (row table.now (t.security - 1)) t }
 {
-    let place = (t.security - 1) as usize;
-    let s = call_table::load(table, place);
+    let s = call_table::load(table, (t.security - 1) as usize);
     cancel_plan(error, st, s, t)
 }
 
+#[tactic(auto, unfolding(crate::specs::Plan::correction_of))]
 fn correction_of(st: Settings, s: Security, c: Correction) -> CorrectionPlan
     requires { OwedCorrection c }
     ensures { result ≡ correction_of st s c }
@@ -307,19 +294,12 @@ fn correction_of(st: Settings, s: Security, c: Correction) -> CorrectionPlan
 fn are_lawful(s: Security, c: Correction) -> bool
     ensures { result ≡ are_lawful s c }
 {
-    let x = c.original;
-    let y = c.correcting;
-    let letters = x.letters;
-    let others = y.letters;
-    if !c.lawful {
-        return false;
-    }
-    if !decide_letters::on_network(s.issue.network, letters) {
-        return false;
-    }
-    decide_letters::on_network(s.issue.network, others)
+    c.lawful
+        && decide_letters::on_network(s.issue.network, c.original.letters)
+        && decide_letters::on_network(s.issue.network, c.correcting.letters)
 }
 
+#[tactic(auto, unfolding(crate::specs::Plan::correction_plan))]
 fn correction_plan(st: Settings, s: Security, c: Correction) -> Plan
     requires { OwedCorrection c }
     ensures { result ≡ correction_plan st s c }
@@ -336,11 +316,11 @@ fn correction_at(st: Settings, table: &Table, c: Correction) -> Plan
     requires { OwedCorrection c }
     ensures { result ≡ correction_plan st (row table.now (c.security - 1)) c }
 {
-    let place = (c.security - 1) as usize;
-    let s = call_table::load(table, place);
+    let s = call_table::load(table, (c.security - 1) as usize);
     correction_plan(st, s, c)
 }
 
+#[tactic(auto, unfolding(crate::specs::Plan::line_plan, line_owed::specs::Owed::OwedLine))]
 fn line_plan(st: Settings, table: &Table, names: &Names, name: &[u8], l: Line) -> Plan
     requires { OwedLine l × (length name.now ≡ name_width) }
     ensures { result ≡ line_plan st table.now names.now name.now l }
@@ -359,6 +339,7 @@ fn line_plan(st: Settings, table: &Table, names: &Names, name: &[u8], l: Line) -
 }
 
 // A line of a known kind, by its fields: refusals 4 and 5, then its own.
+#[tactic(auto, unfolding(crate::specs::Plan::read_plan, rules::specs::Line::is_formed, rules::specs::Line::is_ranged, rules::specs::Line::line_of, text::specs::Pick::pick))]
 fn read_plan(st: Settings, table: &Table, names: &Names, line: &[u8]) -> Plan
     requires { length line.now ≡ width }
     ensures { result ≡ read_plan st table.now names.now line.now }
@@ -370,11 +351,11 @@ fn read_plan(st: Settings, table: &Table, names: &Names, line: &[u8]) -> Plan
     if !parsed.ranged {
         return Plan::Stop(Refusal::Value);
     }
-    let l = parsed.line;
-    line_plan(st, table, names, &line[5..24], l)
+    line_plan(st, table, names, &line[5..24], parsed.line)
 }
 
 // What a line asks for.
+#[tactic(auto, unfolding(crate::specs::Plan::plan_of, text::specs::Pick::pick))]
 pub fn plan_line(st: Settings, table: &Table, names: &Names, line: &[u8]) -> Plan
     ensures { result ≡ plan_of st table.now names.now line.now }
 {
