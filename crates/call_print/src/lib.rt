@@ -18,51 +18,60 @@ fn print_length(names: &Names, line: &[u8], t: TradePlan) -> usize
     requires { SoundPrint line.now t }
     ensures { result ≡ length (print_text (name_text t.temporary (name_of names.now t.place)) t) }
 {
-    let side = t.side;
-    let form = t.form;
     if t.prints {
         let name = call_table::name_at(names, t.place);
-        return print_side::side_length(name, t.temporary, t.network, t.unit, form, t.shows, side);
+        print_side::side_length(
+            name,
+            t.temporary,
+            t.network,
+            t.unit,
+            t.form,
+            t.shows,
+            t.side,
+        )
+    } else {
+        0
     }
-    0
 }
 
 fn cancel_length(names: &Names, line: &[u8], t: CancelPlan) -> usize
     requires { SoundCancel line.now t }
     ensures { result ≡ length (cancelled (name_text false (name_of names.now t.place)) t) }
 {
-    let side = t.side;
-    let form = t.form;
     let name = call_table::name_at(names, t.place);
-    print_amendment::cancel_length(t.error, name, t.network, t.unit, form, t.shows, side)
+    print_amendment::cancel_length(t.error, name, t.network, t.unit, t.form, t.shows, t.side)
 }
 
 fn correction_length(names: &Names, line: &[u8], c: CorrectionPlan) -> usize
     requires { SoundCorrect line.now c }
     ensures { result ≡ length (corrected (name_text false (name_of names.now c.place)) c) }
 {
-    let x = c.original;
-    let y = c.correcting;
-    let form = c.form;
     if c.prints {
         let name = call_table::name_at(names, c.place);
-        return print_amendment::correction_length(name, c.network, c.unit, form, c.shows, x, y);
+        print_amendment::correction_length(
+            name,
+            c.network,
+            c.unit,
+            c.form,
+            c.shows,
+            c.original,
+            c.correcting,
+        )
+    } else {
+        0
     }
-    0
 }
 
+#[tactic(auto, unfolding(crate::specs::Print::print_of, crate::specs::Print::text_of, crate::specs::Print::printed_name, crate::specs::Print::SoundPlan))]
 fn text_length(st: Settings, names: &Names, line: &[u8], p: Plan) -> usize
     requires { SoundPlan line.now p }
     ensures { result ≡ length (print_of st names.now p) }
 {
-    let mode = st.mode;
     match p {
-        Plan::Stop(_) => 0,
-        Plan::Open(_) => 0,
-        Plan::Enter(_, _) => 0,
+        Plan::Stop(_) | Plan::Open(_) | Plan::Enter(_, _) => 0,
         Plan::Change(m) => print_announcement::mode_length(m, st.minimum),
         Plan::Level(n) => print_announcement::level_length(n),
-        Plan::Step(n) => print_announcement::step_length(mode, n),
+        Plan::Step(n) => print_announcement::step_length(st.mode, n),
         Plan::Print(t) => print_length(names, line, t),
         Plan::Cancel(t) => cancel_length(names, line, t),
         Plan::Correct(c) => correction_length(names, line, c),
@@ -87,31 +96,28 @@ fn write_print(rest: &mut [u8], names: &Names, line: &[u8], t: TradePlan) -> usi
     requires { SoundPrint line.now t × (length (print_text (name_text t.temporary (name_of names.now t.place)) t) ≤ length rest.old) }
     ensures { Written (print_text (name_text t.temporary (name_of names.now t.place)) t) rest.old rest.new result }
 {
-    let side = t.side;
-    let form = t.form;
     if t.prints {
         let name = call_table::name_at(names, t.place);
-        return print_side::write_side(
+        print_side::write_side(
             rest,
             name,
             t.temporary,
             t.network,
             t.unit,
-            form,
+            t.form,
             t.shows,
-            side,
+            t.side,
             &line[FIRST_SIDE..SECOND_SIDE],
-        );
+        )
+    } else {
+        0
     }
-    0
 }
 
 fn write_cancel(rest: &mut [u8], names: &Names, line: &[u8], t: CancelPlan) -> usize
     requires { SoundCancel line.now t × (length (cancelled (name_text false (name_of names.now t.place)) t) ≤ length rest.old) }
     ensures { Written (cancelled (name_text false (name_of names.now t.place)) t) rest.old rest.new result }
 {
-    let side = t.side;
-    let form = t.form;
     let name = call_table::name_at(names, t.place);
     print_amendment::write_cancel(
         rest,
@@ -119,9 +125,9 @@ fn write_cancel(rest: &mut [u8], names: &Names, line: &[u8], t: CancelPlan) -> u
         name,
         t.network,
         t.unit,
-        form,
+        t.form,
         t.shows,
-        side,
+        t.side,
         &line[FIRST_SIDE..SECOND_SIDE],
     )
 }
@@ -130,39 +136,35 @@ fn write_correction(rest: &mut [u8], names: &Names, line: &[u8], c: CorrectionPl
     requires { SoundCorrect line.now c × (length (corrected (name_text false (name_of names.now c.place)) c) ≤ length rest.old) }
     ensures { Written (corrected (name_text false (name_of names.now c.place)) c) rest.old rest.new result }
 {
-    let x = c.original;
-    let y = c.correcting;
-    let form = c.form;
     if c.prints {
         let name = call_table::name_at(names, c.place);
-        return print_amendment::write_correction(
+        print_amendment::write_correction(
             rest,
             name,
             c.network,
             c.unit,
-            form,
+            c.form,
             c.shows,
-            x,
-            y,
+            c.original,
+            c.correcting,
             &line[FIRST_SIDE..SECOND_SIDE],
             &line[SECOND_SIDE..SIDES_END],
-        );
+        )
+    } else {
+        0
     }
-    0
 }
 
+#[tactic(auto, using(text::proofs::Writing::written_nothing), unfolding(crate::specs::Print::print_of, crate::specs::Print::text_of, crate::specs::Print::printed_name, crate::specs::Print::SoundPlan))]
 pub fn write_text(rest: &mut [u8], st: Settings, names: &Names, line: &[u8], p: Plan) -> usize
     requires { SoundPlan line.now p × (length (print_of st names.now p) ≤ length rest.old) }
     ensures { Written (print_of st names.now p) rest.old rest.new result }
 {
-    let mode = st.mode;
     match p {
-        Plan::Stop(_) => 0,
-        Plan::Open(_) => 0,
-        Plan::Enter(_, _) => 0,
+        Plan::Stop(_) | Plan::Open(_) | Plan::Enter(_, _) => 0,
         Plan::Change(m) => print_announcement::write_mode(rest, m, st.minimum),
         Plan::Level(n) => print_announcement::write_level(rest, n),
-        Plan::Step(n) => print_announcement::write_step(rest, mode, n),
+        Plan::Step(n) => print_announcement::write_step(rest, st.mode, n),
         Plan::Print(t) => write_print(rest, names, line, t),
         Plan::Cancel(t) => write_cancel(rest, names, line, t),
         Plan::Correct(c) => write_correction(rest, names, line, c),

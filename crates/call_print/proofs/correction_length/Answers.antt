@@ -5,5 +5,5 @@ use Rattle.call_print.proofs.correction_length.Goals as goal
 pub returns-then-c : goal.returns-then-c
 returns-then-c c = search (length_named, corrections)
 
-pub returns : goal.returns
-returns c = search (length_named, corrections)
+pub returns-else-c : goal.returns-else-c
+returns-else-c c = search (length_named, corrections)

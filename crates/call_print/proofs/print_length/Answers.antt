@@ -5,5 +5,5 @@ use Rattle.call_print.proofs.print_length.Goals as goal
 pub returns-then-t : goal.returns-then-t
 returns-then-t c = search (length_named, prints)
 
-pub returns : goal.returns
-returns c = search (length_named, prints)
+pub returns-else-t : goal.returns-else-t
+returns-else-t c = search (length_named, prints)

@@ -9,5 +9,5 @@ write_correction-requires c = (search rules, search rules, search rules, search 
 pub returns-then-c : goal.returns-then-c
 returns-then-c c = search (named, corrections, written_nothing)
 
-pub returns : goal.returns
-returns c = search (named, corrections, written_nothing)
+pub returns-else-c : goal.returns-else-c
+returns-else-c c = search (named, corrections, written_nothing)

@@ -9,5 +9,5 @@ write_side-requires c = (search rules, search rules, search rules, search prints
 pub returns-then-t : goal.returns-then-t
 returns-then-t c = search (named, prints, written_nothing)
 
-pub returns : goal.returns
-returns c = search (named, prints, written_nothing)
+pub returns-else-t : goal.returns-else-t
+returns-else-t c = search (named, prints, written_nothing)
