@@ -10,79 +10,54 @@ use call_plan::Plan;
 use call_table::{Names, Table};
 use rules::{Mode, Settings};
 
+#[tactic(auto, unfolding(rules::specs::Day::opened))]
 pub fn opened_on(date: u64) -> Settings
     ensures { result ≡ opened date }
 {
     Settings {
-        date: date,
+        date,
         mode: Mode::Normal,
         level: 5000,
         minimum: 1,
     }
 }
 
+#[tactic(auto, unfolding(crate::specs::After::settings_after))]
 pub fn settings_after(st: Settings, p: Plan) -> Settings
     ensures { result ≡ settings_after st p }
 {
-    let mode = st.mode;
     match p {
-        Plan::Stop(_) => st,
         Plan::Open(n) => opened_on(n),
-        Plan::Enter(_, _) => st,
-        Plan::Change(m) => Settings {
-            date: st.date,
-            mode: m,
-            level: st.level,
-            minimum: st.minimum,
-        },
-        Plan::Level(n) => Settings {
-            date: st.date,
-            mode: mode,
-            level: n,
-            minimum: st.minimum,
-        },
-        Plan::Step(n) => Settings {
-            date: st.date,
-            mode: mode,
-            level: st.level,
-            minimum: n,
-        },
-        Plan::Print(_) => st,
-        Plan::Cancel(_) => st,
-        Plan::Correct(_) => st,
+        Plan::Change(m) => Settings { mode: m, ..st },
+        Plan::Level(n) => Settings { level: n, ..st },
+        Plan::Step(n) => Settings { minimum: n, ..st },
+        Plan::Stop(_) | Plan::Enter(_, _) | Plan::Print(_) | Plan::Cancel(_) | Plan::Correct(_) =>
+            st,
     }
 }
 
+#[tactic(auto, unfolding(crate::specs::After::table_after, call_print::specs::Print::SoundPlan))]
 pub fn update_table(table: &mut Table, line: &[u8], p: Plan)
     requires { SoundPlan line.now p }
     ensures { table.new ≡ table_after table.old p }
 {
     match p {
-        Plan::Stop(_) => {}
         Plan::Open(_) => call_table::clear(table),
         Plan::Enter(i, s) => call_table::store(table, i, s),
-        Plan::Change(_) => {}
-        Plan::Level(_) => {}
-        Plan::Step(_) => {}
         Plan::Print(t) => call_table::store(table, t.place, t.after),
-        Plan::Cancel(_) => {}
         Plan::Correct(c) => call_table::store(table, c.place, c.after),
+        Plan::Stop(_) | Plan::Change(_) | Plan::Level(_) | Plan::Step(_) | Plan::Cancel(_) => {}
     }
 }
 
+#[tactic(auto, unfolding(crate::specs::After::names_after, call_print::specs::Print::SoundPlan))]
 pub fn update_names(names: &mut Names, line: &[u8], p: Plan)
     requires { SoundPlan line.now p }
     ensures { names.new ≡ names_after names.old line.now p }
 {
     match p {
-        Plan::Stop(_) => {}
         Plan::Open(_) => call_table::clear_names(names),
         Plan::Enter(i, _) => call_table::store_name(names, i, &line[5..24]),
-        Plan::Change(_) => {}
-        Plan::Level(_) => {}
-        Plan::Step(_) => {}
-        Plan::Print(_) => {}
-        Plan::Cancel(_) => {}
-        Plan::Correct(_) => {}
+        _ => {}
     }
 }
