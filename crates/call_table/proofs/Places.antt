@@ -4,10 +4,9 @@ use native.Mathlib.Nat.{not-suc-le-zero, le_of_suc-le-suc}
 use native.Mathlib.Omega.{arith}
 use mathlib.Core.Path.{◌≡◌, refl, sym, ap, ◌∙◌}
 use mathlib.Core.Logic.{◌⊎◌, inl, inr, ⊎_elim}
-use mathlib.Core.List.{List, [], ◌∷◌, ◌++◌, append_assoc, append-nil}
-use lib.ListN.{length, get_or, set, take, drop, replicate, length-set, length-append, length-drop, drop_of_length-le}
-use lib.Seq.{get_or-set_same, get_or-set_other, take_all, drop-drop, take-append-le, drop-append-le, drop_at, take_at, length-take-le, drop-append-add}
-use Rattle.text.specs.Put.{put, Written}
+use mathlib.Core.List.{List, [], ◌∷◌, ◌++◌, append_assoc}
+use lib.ListN.{length, get_or, set, take, drop, replicate, length-set, length-append, length-drop}
+use lib.Seq.{get_or-set_same, get_or-set_other, drop-drop, take-append-le, drop-append-le, drop_at, take_at, length-take-le, drop-append-add}
 use Rattle.rules.specs.declared.Security.{Security}
 use Rattle.rules.specs.Day.{vacant, no_name}
 use Rattle.call_table.specs.Rows.{stored_from, issue_numbers, printed_numbers, range_numbers, counts_numbers, row, with_row, name_of, with_name, rows_from, names_from}
@@ -128,15 +127,6 @@ rows_set (suc k) i (suc j) t s h l =
     rw (other_row t (i + suc j) i s (inr (omega arith))) (rw e (ap (λ (r : List Security). row t i ∷ r) (rows_set k (suc i) j t s (le_of_suc-le-suc h) (omega arith))))
 
 -- ---- names
-
--- a text put in by a writer that was lent the part from `at` on
-pub placed : (names name ys : List ℕ) (at n : ℕ) → at + length name ≤ length names → Written name (take (length names - at) (drop at names)) ys n → take at names ++ (ys ++ drop (length names - at) (drop at names)) ≡ with_name names at name
-unfolding with_name put
-placed names name ys at n h w =
-    let l : length (drop at names) ≤ length names - at = rw length-drop (omega arith) in
-    let every : take (length names - at) (drop at names) ≡ drop at names = take_all _ _ l in
-    let none : drop (length names - at) (drop at names) ≡ [] = drop_of_length-le _ l in
-    rw (none, append-nil, w.tape, every, drop-drop)
 
 -- the name put at place i is read there
 pub name_kept : (names name : List ℕ) (i : ℕ) → length name ≡ name_width → i * name_width + name_width ≤ length names → name_of (with_name names (i * name_width) name) i ≡ name

@@ -31,6 +31,7 @@ pub const NAMES_SIZE: usize = PLACES * NAME_WIDTH;
 pub type Names = [u8; NAMES_SIZE];
 
 // ---- the parts of a security: each is loaded and stored here, its numbers from `b` on
+// Kept: a loader and a storer a part, since a trait over the four would say the same once more and no shorter.
 
 fn load_issue(table: &Table, b: usize) -> Issue
     requires { b + 4 ≤ table_size }
@@ -130,30 +131,19 @@ pub fn store(table: &mut Table, i: usize, s: Security)
     ensures { table.new ≡ with_row table.old i s }
 {
     let b = i * ROW;
-    let issue = s.issue;
-    let printed = s.printed;
-    let range = s.range;
-    let counts = s.counts;
-    store_issue(table, b + ISSUE, issue);
-    store_printed(table, b + PRINTED, printed);
-    store_range(table, b + RANGE, range);
-    store_counts(table, b + COUNTS, counts);
+    store_issue(table, b + ISSUE, s.issue);
+    store_printed(table, b + PRINTED, s.printed);
+    store_range(table, b + RANGE, s.range);
+    store_counts(table, b + COUNTS, s.counts);
 }
 
-// A name put there, from `at` on.
-fn put_name(names: &mut [u8], at: usize, name: &[u8])
-    requires { at + length name.now ≤ length names.old }
-    ensures { names.new ≡ with_name names.old at name.now }
-{
-    let n = text::write_bytes(&mut names[at..], name);
-}
-
+#[tactic(auto, unfolding(crate::specs::Rows::with_name))]
 pub fn store_name(names: &mut Names, i: usize, name: &[u8])
     requires { (i < security_places) × (length name.now ≡ name_width) }
     ensures { names.new ≡ with_name names.old (i * name_width) name.now }
 {
     let at = i * NAME_WIDTH;
-    put_name(names, at, name);
+    names[at..at + name.len()].copy_from_slice(name);
 }
 
 // A D line clears both.
@@ -174,8 +164,6 @@ pub fn name_at<'a>(names: &'a Names, place: usize) -> &'a [u8]
     requires { place < security_places }
     ensures { (result.now ≡ name_of names.now place) × (length result.now ≡ name_width) }
 {
-    let all = &names[..];
     let from = place * NAME_WIDTH;
-    let to = from + NAME_WIDTH;
-    &all[from..to]
+    &names[from..from + NAME_WIDTH]
 }
