@@ -10,6 +10,7 @@ use lib.Seq.{drop-append_seam}
 use lib.Pow.{pow-add}
 use lib.Dec.{eqb}
 use borrow.Author.Tests.{eqb-true, eqb-false, eq-eqb, ne_eqb}
+use Rattle.std.specs.Prelude.{Some}
 use Rattle.text.specs.Bytes.{bytes}
 use Rattle.text.specs.Pick.{pick}
 use Rattle.text.specs.Decimal.{places, decimal}
@@ -22,7 +23,6 @@ use Rattle.print_price.specs.Sound.{Sound}
 use Rattle.print_price.proofs.PriceBack.{NoMore}
 use Rattle.read_price.specs.declared.Digits.{Digits}
 use Rattle.read_price.specs.declared.PriceRead.{PriceRead}
-use Rattle.read_price.specs.declared.PriceAnswer.TheVariants.{Priced}
 use Rattle.read_price.specs.Digits.{digits_onto, digits_at, zero_first}
 use Rattle.read_price.specs.Price.{fraction_at, priced_by, price_at}
 use Rattle.read_price.proofs.Bounds.{digits_counted}
@@ -116,7 +116,7 @@ decimal_first = ten_ind (λ n. 1 ≤ n → (s : List ℕ) → heads (λ c. eqb c
 
 pub record PriceAgain (t : List ℕ) (p : Price) (s : List ℕ) : Type 0 where
   pub got : PriceRead
-  pub read : price_at (t ++ s) ≡ Priced got
+  pub read : price_at (t ++ s) ≡ Some got
   pub long : length t ≤ got.used
   pub exact : NoMore s → (got.used ≡ length t) × (units got.price ≡ units p)
 
@@ -124,11 +124,11 @@ price_parts : (x : List ℕ) (w f : Digits) → zero_first x ≡ false → digit
 unfolding price_at pick
 price_parts x w f z e g = rw (z, e, g)
 
-by_whole : (w f : Digits) → f.value ≡ 0 → 1 ≤ w.count → priced_by w f ≡ Priced (record { price = record { n = w.value; d = 0 }; used = w.count })
+by_whole : (w f : Digits) → f.value ≡ 0 → 1 ≤ w.count → priced_by w f ≡ Some (record { price = record { n = w.value; d = 0 }; used = w.count })
 unfolding priced_by pick
 by_whole w f h k = rw (eq-eqb f.value 0 h, ne_eqb w.count 0 (λ e. omega arith))
 
-by_both : (w f : Digits) → 1 ≤ f.value → priced_by w f ≡ Priced (record { price = record { n = w.value * 10 ^ f.count + f.value; d = f.count }; used = w.count + (1 + f.count) })
+by_both : (w f : Digits) → 1 ≤ f.value → priced_by w f ≡ Some (record { price = record { n = w.value * 10 ^ f.count + f.value; d = f.count }; used = w.count + (1 + f.count) })
 unfolding priced_by pick
 by_both w f h = rw (ne_eqb f.value 0 (λ e. omega arith))
 

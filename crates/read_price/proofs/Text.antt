@@ -10,6 +10,7 @@ use lib.Seq.{append_snoc, take-add}
 use lib.Pow.{pow-add}
 use lib.Dec.{eqb}
 use borrow.Author.Tests.{eqb-true, eqb-false, ne_eqb}
+use Rattle.std.specs.Prelude.{Some, None}
 use Rattle.text.specs.Pick.{pick}
 use Rattle.text.specs.Decimal.{places, decimal}
 use Rattle.text.specs.Reading.{heads, is_digit}
@@ -18,7 +19,6 @@ use Rattle.rules.specs.Price.{whole_part, fraction, whole_text, fraction_text, d
 use Rattle.print_price.specs.Sound.{Sound}
 use Rattle.read_price.specs.declared.Digits.{Digits}
 use Rattle.read_price.specs.declared.PriceRead.{PriceRead}
-use Rattle.read_price.specs.declared.PriceAnswer.TheVariants.{Priced, NoPrice}
 use Rattle.read_price.specs.Digits.{digits_onto, digits_at, zero_first}
 use Rattle.read_price.specs.Price.{fraction_at, priced_by, price_at}
 use Rattle.read_price.proofs.Bounds.{digit_from, digit_to, Counted, digits_counted, digit_small, digits_within, digits_small, digits_below, Fractioned, fraction_found}
@@ -223,7 +223,7 @@ module _ (s : List ℕ) (w : Digits) (e : w ≡ digits_at 6 s) (z : zero_first s
     }
 
 -- WHAT IS READ AS A PRICE is a price in full, and stands there
-pub price_found : (s : List ℕ) (p : PriceRead) → price_at s ≡ Priced p → PriceFound s p
+pub price_found : (s : List ℕ) (p : PriceRead) → price_at s ≡ Some p → PriceFound s p
 unfolding price_at priced_by pick
 price_found s p h = go (zero_first s) refl h
   where
@@ -233,22 +233,22 @@ price_found s p h = go (zero_first s) refl h
     f : Digits
     f = fraction_at (drop w.count s)
 
-    is : (q : PriceRead) → PriceFound s q → Priced q ≡ Priced p → PriceFound s p
+    is : (q : PriceRead) → PriceFound s q → Some q ≡ Some p → PriceFound s p
     is q k e = let y : q ≡ p = cc in rw y at k
 
-    whole : (b : Bool) → zero_first s ≡ false → eqb w.count 0 ≡ b → pick b NoPrice (Priced (record { price = record { n = w.value; d = 0 }; used = w.count })) ≡ Priced p → PriceFound s p
+    whole : (b : Bool) → zero_first s ≡ false → eqb w.count 0 ≡ b → pick b None (Some (record { price = record { n = w.value; d = 0 }; used = w.count })) ≡ Some p → PriceFound s p
     whole true z e q = absurd (let y : ◌≡◌ {A = ℕ} 0 1 = cc in omega arith)
     whole false z e q = is _ (found_whole s w refl z (omega (arith, eqb-false w.count 0 e))) q
 
-    both : (b : Bool) → zero_first s ≡ false → eqb f.value 0 ≡ b → pick b (pick (eqb w.count 0) NoPrice (Priced (record { price = record { n = w.value; d = 0 }; used = w.count }))) (Priced (record { price = record { n = w.value * 10 ^ f.count + f.value; d = f.count }; used = w.count + (1 + f.count) })) ≡ Priced p → PriceFound s p
+    both : (b : Bool) → zero_first s ≡ false → eqb f.value 0 ≡ b → pick b (pick (eqb w.count 0) None (Some (record { price = record { n = w.value; d = 0 }; used = w.count }))) (Some (record { price = record { n = w.value * 10 ^ f.count + f.value; d = f.count }; used = w.count + (1 + f.count) })) ≡ Some p → PriceFound s p
     both true z e q = whole (eqb w.count 0) z refl q
     both false z e q = is _ (found_both s w refl z f refl (omega (arith, eqb-false f.value 0 e))) q
 
-    go : (b : Bool) → zero_first s ≡ b → pick b NoPrice (priced_by w f) ≡ Priced p → PriceFound s p
+    go : (b : Bool) → zero_first s ≡ b → pick b None (priced_by w f) ≡ Some p → PriceFound s p
     go true z q = absurd (let y : ◌≡◌ {A = ℕ} 0 1 = cc in omega arith)
     go false z q = both (eqb f.value 0) z refl q
 
-module _ (s : List ℕ) (p : PriceRead) (h : price_at s ≡ Priced p) where
+module _ (s : List ℕ) (p : PriceRead) (h : price_at s ≡ Some p) where
   pub price_sound : Sound p.price
   price_sound = (price_found s p h).sound
 

@@ -3,7 +3,6 @@
 #![tactic(auto)]
 
 ghost use Rattle.std.specs.Prelude.{◌≡◌, ◌*◌, ◌^◌, ◌≤◌, ◌<◌};
-ghost use Rattle.text.specs.Reading.{starts};
 ghost use Rattle.read_price.specs.Digits.{digits_at};
 ghost use Rattle.read_price.specs.Price.{fraction_at, priced_by, price_at};
 
@@ -23,29 +22,6 @@ pub struct PriceRead {
     pub used: usize,
 }
 
-#[derive(Clone, Copy)]
-pub enum PriceAnswer {
-    Priced(PriceRead),
-    NoPrice,
-}
-
-// The text p stands at the front of s.
-pub fn starts_with(s: &[u8], p: &[u8]) -> bool
-    ensures { result ≡ starts p.now s.now }
-{
-    let mut i = 0;
-    while i < p.len() {
-        if s.len() <= i {
-            return false; // too short
-        }
-        if p[i] != s[i] {
-            return false;
-        }
-        i += 1;
-    }
-    true
-}
-
 // ---- digits and prices
 
 // At most `most` digits.
@@ -53,88 +29,61 @@ pub fn digits_at(s: &[u8], most: usize) -> Digits
     requires { most ≤ 12 }
     ensures { result ≡ digits_at most s.now }
 {
-    let mut i = 0;
     let mut value: u64 = 0;
-    while i < most {
-        if s.len() <= i {
-            return Digits {
-                count: i,
-                value: value,
-            };
+    for i in 0..most {
+        if s.len() <= i || !s[i].is_ascii_digit() {
+            return Digits { count: i, value };
         }
-        let c = s[i];
-        if c < b'0' {
-            return Digits {
-                count: i,
-                value: value,
-            };
-        }
-        if b'9' < c {
-            return Digits {
-                count: i,
-                value: value,
-            };
-        }
-        value = 10 * value + text::wide(c - b'0');
-        i += 1;
+        value = 10 * value + u64::from(s[i] - b'0');
     }
-    Digits {
-        count: i,
-        value: value,
-    }
+    Digits { count: most, value }
 }
 
 // The digits behind a figure dot, at most eight.
+#[tactic(auto, unfolding(crate::specs::Price::fraction_at, text::specs::Pick::pick))]
 fn fraction_at(s: &[u8]) -> Digits
     ensures { result ≡ fraction_at s.now }
 {
-    if s.len() == 0 {
-        return Digits { count: 0, value: 0 };
+    match s {
+        [b',', rest @ ..] => digits_at(rest, 8),
+        _ => Digits { count: 0, value: 0 },
     }
-    if s[0] != b',' {
-        return Digits { count: 0, value: 0 };
-    }
-    digits_at(&s[1..], 8)
 }
 
 // The price that a whole part and a fraction say.
-fn priced(w: Digits, f: Digits) -> PriceAnswer
-    requires { (w.value < 1000000) × (w.count ≤ 6) × (f.value < 100000000) × (f.count ≤ 8) }
-    ensures { result ≡ priced_by w f }
+#[tactic(auto, unfolding(crate::specs::Price::priced_by, text::specs::Pick::pick))]
+fn priced(whole: Digits, fraction: Digits) -> Option<PriceRead>
+    requires { (whole.value < 1000000) × (whole.count ≤ 6) × (fraction.value < 100000000) × (fraction.count ≤ 8) }
+    ensures { result ≡ priced_by whole fraction }
 {
-    if f.value == 0 {
-        if w.count == 0 {
-            return PriceAnswer::NoPrice;
+    if fraction.value == 0 {
+        if whole.count == 0 {
+            return None;
         }
-        let whole = Price { n: w.value, d: 0 };
-        return PriceAnswer::Priced(PriceRead {
-            price: whole,
-            used: w.count,
+        return Some(PriceRead {
+            price: Price {
+                n: whole.value,
+                d: 0,
+            },
+            used: whole.count,
         });
     }
-    let d = f.count as u64;
-    let price = Price {
-        n: w.value * print_price::power(d) + f.value,
-        d: d,
-    };
-    PriceAnswer::Priced(PriceRead {
-        price: price,
-        used: w.count + (1 + f.count),
+    let d = fraction.count as u64;
+    let n = whole.value * print_price::power(d) + fraction.value;
+    Some(PriceRead {
+        price: Price { n, d },
+        used: whole.count + (1 + fraction.count),
     })
 }
 
 // A full price.
-pub fn price_at(s: &[u8]) -> PriceAnswer
+#[tactic(auto, unfolding(crate::specs::Price::price_at, crate::specs::Digits::zero_first, text::specs::Pick::pick))]
+pub fn price_at(s: &[u8]) -> Option<PriceRead>
     ensures { result ≡ price_at s.now }
 {
-    if s.len() == 0 {
-        return PriceAnswer::NoPrice;
+    if matches!(s, [b'0', ..]) {
+        return None;
     }
-    if s[0] == b'0' {
-        return PriceAnswer::NoPrice;
-    }
-    let w = digits_at(s, 6);
-    let at = w.count;
-    let f = fraction_at(&s[at..]);
-    priced(w, f)
+    let whole = digits_at(s, 6);
+    priced(whole, fraction_at(&s[whole.count..]))
 }

@@ -1,11 +1,8 @@
-use Prim.Native.Nat.{◌-◌, ◌^◌, ◌≤◌, ◌<◌}
+use Prim.Native.Nat.{◌-◌, ◌^◌, ◌<◌}
 use mathlib.Core.Path.{◌≡◌}
 use lib.ListN.{drop}
 use Rattle.read_price.specs.Digits.{digits_onto}
 use Rattle.read_price.proofs.digits_at.Given as goal
 
 abbrev pub invariant-loop-i : goal.invariant-loop-i
-invariant-loop-i l = (l.i ≤ l.most) × (digits_onto (l.most - l.i) l.value l.i (drop l.i l.s) ≡ digits_onto l.most 0 0 l.s) × (l.value < 10 ^ l.i)
-
-abbrev pub decreases-loop-i : goal.decreases-loop-i
-decreases-loop-i l = l.most - l.i
+invariant-loop-i l = (digits_onto (l.most - l.i) l.value l.i (drop l.i l.s) ≡ digits_onto l.most 0 0 l.s) × (l.value < 10 ^ l.i)

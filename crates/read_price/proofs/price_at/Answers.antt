@@ -1,12 +1,5 @@
-use Rattle.read_price.proofs.Front.{price_empty, price_zero, price_is}
 use Rattle.read_price.proofs.Bounds.{digits_count, digits_within, digits_below, fraction_count, fraction_below}
 use Rattle.read_price.proofs.price_at.Goals as goal
-
-pub returns-then-s-eq0 : goal.returns-then-s-eq0
-returns-then-s-eq0 c = search price_empty
-
-pub returns-then-s-eq48 : goal.returns-then-s-eq48
-returns-then-s-eq48 c = search price_zero
 
 pub slice_bounds-fraction_at-count : goal.slice_bounds-fraction_at-count
 slice_bounds-fraction_at-count c = search digits_within
@@ -16,6 +9,3 @@ slice_bounds-fraction_at-start c = search digits_within
 
 pub priced-requires : goal.priced-requires
 priced-requires c = (search digits_below, search digits_count, search fraction_below, search fraction_count)
-
-pub returns : goal.returns
-returns c = search price_is
