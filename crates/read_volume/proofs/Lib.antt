@@ -1,4 +1,3 @@
 pub mod Volumes
-pub mod Units
 pub mod VolumeBack
 pub mod Shown

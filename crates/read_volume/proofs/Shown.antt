@@ -8,6 +8,7 @@ use lib.ListN.{length, take, drop, length-drop}
 use lib.Seq.{take-add}
 use lib.Dec.{leb, ltb, eqb}
 use borrow.Author.Tests.{eqb-true, ltb-true, leb-true, lt-ltb, le-ltb, eq-eqb, ne_eqb}
+use Rattle.std.specs.Prelude.{Some, None}
 use Rattle.print_volume.proofs.VolumeBack.{small}
 use Rattle.text.specs.Bytes.{bytes}
 use Rattle.text.specs.Pick.{pick, same}
@@ -21,7 +22,6 @@ use Rattle.read_price.specs.declared.Digits.{Digits}
 use Rattle.read_volume.specs.declared.Volume.{Volume}
 use Rattle.read_volume.specs.declared.Volume.TheVariants.{Unsaid, Hundreds, Tens, Shares}
 use Rattle.read_volume.specs.declared.VolumeRead.{VolumeRead}
-use Rattle.read_volume.specs.declared.VolumeAnswer.TheVariants.{Said, NoVolume}
 use Rattle.read_volume.specs.Volume.{figures_at, said_by, marked_by, volume_at, shares_in, figures_of, said_text, hundreds_explained, tens_explained, shares_explained, explains}
 use Rattle.read_volume.proofs.Volumes.{figures_within}
 
@@ -37,14 +37,14 @@ pub record VolumeFound (s : List ℕ) (v : VolumeRead) : Type 0 where
 
 -- figures f, and a mark behind them
 module _ (s : List ℕ) (f : Digits) (e : f ≡ figures_at s) (mark : List ℕ) (b : starts mark (drop f.count s) ≡ true) (x : Volume) (n : 1 ≤ length mark) (shows : said_text x ≡ full_volume f.value ++ mark) (counts : figures_of x ≡ f.value) where
-  found_marked : (v : VolumeRead) → said_by s f x (length mark) ≡ Said v → VolumeFound s v
+  found_marked : (v : VolumeRead) → said_by s f x (length mark) ≡ Some v → VolumeFound s v
   unfolding said_by pick
   found_marked v h = go (ltb f.value 1000000000) (same (take f.count s) (full_volume f.value)) refl refl h
     where
-      is : (q : VolumeRead) → VolumeFound s q → Said q ≡ Said v → VolumeFound s v
+      is : (q : VolumeRead) → VolumeFound s q → Some q ≡ Some v → VolumeFound s v
       is q k g = let y : q ≡ v = cc in rw y at k
 
-      go : (c d : Bool) → ltb f.value 1000000000 ≡ c → same (take f.count s) (full_volume f.value) ≡ d → pick (c && d) (Said (record { volume = x; used = f.count + length mark })) NoVolume ≡ Said v → VolumeFound s v
+      go : (c d : Bool) → ltb f.value 1000000000 ≡ c → same (take f.count s) (full_volume f.value) ≡ d → pick (c && d) (Some (record { volume = x; used = f.count + length mark })) None ≡ Some v → VolumeFound s v
       go true true p q g =
           is _
           (record {
@@ -58,7 +58,7 @@ module _ (s : List ℕ) (f : Digits) (e : f ≡ figures_at s) (mark : List ℕ) 
       go false d p q g = absurd (let y : ◌≡◌ {A = ℕ} 0 1 = cc in omega arith)
 
 -- WHAT IS READ AS A VOLUME stands there
-pub volume_found : (s : List ℕ) (v : VolumeRead) → volume_at s ≡ Said v → VolumeFound s v
+pub volume_found : (s : List ℕ) (v : VolumeRead) → volume_at s ≡ Some v → VolumeFound s v
 unfolding volume_at marked_by said_text figures_of pick
 volume_found s v h = hundreds (starts (bytes "s") rest) refl h
   where
@@ -68,19 +68,19 @@ volume_found s v h = hundreds (starts (bytes "s") rest) refl h
     rest : List ℕ
     rest = drop f.count s
 
-    shares : (c : Bool) → starts (bytes "SHRS") rest ≡ c → pick c (said_by s f (Shares f.value) 4) NoVolume ≡ Said v → VolumeFound s v
+    shares : (c : Bool) → starts (bytes "SHRS") rest ≡ c → pick c (said_by s f (Shares f.value) 4) None ≡ Some v → VolumeFound s v
     shares true b g = found_marked s f refl (bytes "SHRS") b (Shares f.value) (omega arith) refl refl v g
     shares false b g = absurd (let y : ◌≡◌ {A = ℕ} 0 1 = cc in omega arith)
 
-    tens : (c : Bool) → starts (bytes "$") rest ≡ c → pick c (said_by s f (Tens f.value) 1) (pick (starts (bytes "SHRS") rest) (said_by s f (Shares f.value) 4) NoVolume) ≡ Said v → VolumeFound s v
+    tens : (c : Bool) → starts (bytes "$") rest ≡ c → pick c (said_by s f (Tens f.value) 1) (pick (starts (bytes "SHRS") rest) (said_by s f (Shares f.value) 4) None) ≡ Some v → VolumeFound s v
     tens true b g = found_marked s f refl (bytes "$") b (Tens f.value) (omega arith) refl refl v g
     tens false b g = shares (starts (bytes "SHRS") rest) refl g
 
-    hundreds : (c : Bool) → starts (bytes "s") rest ≡ c → pick c (said_by s f (Hundreds f.value) 1) (pick (starts (bytes "$") rest) (said_by s f (Tens f.value) 1) (pick (starts (bytes "SHRS") rest) (said_by s f (Shares f.value) 4) NoVolume)) ≡ Said v → VolumeFound s v
+    hundreds : (c : Bool) → starts (bytes "s") rest ≡ c → pick c (said_by s f (Hundreds f.value) 1) (pick (starts (bytes "$") rest) (said_by s f (Tens f.value) 1) (pick (starts (bytes "SHRS") rest) (said_by s f (Shares f.value) 4) None)) ≡ Some v → VolumeFound s v
     hundreds true b g = found_marked s f refl (bytes "s") b (Hundreds f.value) (omega arith) refl refl v g
     hundreds false b g = tens (starts (bytes "$") rest) refl g
 
-module _ (s : List ℕ) (v : VolumeRead) (h : volume_at s ≡ Said v) where
+module _ (s : List ℕ) (v : VolumeRead) (h : volume_at s ≡ Some v) where
   pub volume_within : v.used ≤ length s
   volume_within = (volume_found s v h).within
 

@@ -8,6 +8,7 @@ use lib.ListN.{length, drop, length-append}
 use lib.Seq.{take-append_seam, drop-append_seam}
 use lib.Dec.{ltb, eqb}
 use borrow.Author.Tests.{eqb-true, eqb-false, ltb-true, ltb-false, lt-ltb, le-leb, eq-eqb, ne_eqb, not-false}
+use Rattle.std.specs.Prelude.{Some}
 use Rattle.text.specs.Bytes.{bytes}
 use Rattle.text.specs.Pick.{pick, among}
 use Rattle.text.specs.Reading.{found, heads, is_digit, dot_digit, starts}
@@ -22,7 +23,6 @@ use Rattle.read_price.specs.declared.Digits.{Digits}
 use Rattle.read_volume.specs.declared.Volume.{Volume}
 use Rattle.read_volume.specs.declared.Volume.TheVariants.{Unsaid, Hundreds, Tens, Shares}
 use Rattle.read_volume.specs.declared.VolumeRead.{VolumeRead}
-use Rattle.read_volume.specs.declared.VolumeAnswer.TheVariants.{Said}
 use Rattle.read_volume.specs.Volume.{figures_onto, figures_at, said_by, marked_by, volume_at, shares_in, hundreds_explained, tens_explained, shares_explained, explains}
 use Rattle.read_volume.proofs.Volumes.{volume_long}
 
@@ -106,7 +106,7 @@ volume_of (said n hundreds) = Hundreds n
 volume_of (said n tens) = Tens n
 volume_of (said n shares) = Shares n
 
-said_again : (n : ℕ) (s : List ℕ) (v : Volume) (k : ℕ) → n < 1000000000 → said_by (full_volume n ++ s) (record { count = length (full_volume n); value = n }) v k ≡ Said (record { volume = v; used = length (full_volume n) + k })
+said_again : (n : ℕ) (s : List ℕ) (v : Volume) (k : ℕ) → n < 1000000000 → said_by (full_volume n ++ s) (record { count = length (full_volume n); value = n }) v k ≡ Some (record { volume = v; used = length (full_volume n) + k })
 unfolding said_by pick
 said_again n s v k h = rw (lt-ltb n 1000000000 h, take-append_seam (full_volume n) s, same_refl (full_volume n))
 
@@ -120,13 +120,13 @@ mark_ends hundreds s = (refl, refl)
 mark_ends tens s = (refl, refl)
 mark_ends shares s = (refl, refl)
 
-mark_again : (n : ℕ) (m : Mark) (s : List ℕ) → n < 1000000000 → marked_by (full_volume n ++ (mark_text m ++ s)) (record { count = length (full_volume n); value = n }) (mark_text m ++ s) ≡ Said (record { volume = volume_of (said n m); used = length (full_volume n) + length (mark_text m) })
+mark_again : (n : ℕ) (m : Mark) (s : List ℕ) → n < 1000000000 → marked_by (full_volume n ++ (mark_text m ++ s)) (record { count = length (full_volume n); value = n }) (mark_text m ++ s) ≡ Some (record { volume = volume_of (said n m); used = length (full_volume n) + length (mark_text m) })
 unfolding marked_by mark_text volume_of starts pick
 mark_again n hundreds s h = said_again n (bytes "s" ++ s) (Hundreds n) 1 h
 mark_again n tens s h = said_again n (bytes "$" ++ s) (Tens n) 1 h
 mark_again n shares s h = said_again n (bytes "SHRS" ++ s) (Shares n) 4 h
 
-pub shown_again : (n : ℕ) (m : Mark) (s : List ℕ) → n < 1000000000 → volume_at ((full_volume n ++ mark_text m) ++ s) ≡ Said (record { volume = volume_of (said n m); used = length (full_volume n ++ mark_text m) })
+pub shown_again : (n : ℕ) (m : Mark) (s : List ℕ) → n < 1000000000 → volume_at ((full_volume n ++ mark_text m) ++ s) ≡ Some (record { volume = volume_of (said n m); used = length (full_volume n ++ mark_text m) })
 shown_again n m s h =
     let e = mark_ends m s in
     rw (append_assoc (full_volume n) (mark_text m) s, length-append (full_volume n) (mark_text m))
@@ -236,12 +236,12 @@ module _ (network unit v : ℕ) (a : is_network network ≡ true) (u : is_unit u
 
 pub record VolumeAgain (network unit v : ℕ) (s : List ℕ) : Type 0 where
   pub got : VolumeRead
-  pub read : volume_at (volume_text network unit v ++ s) ≡ Said got
+  pub read : volume_at (volume_text network unit v ++ s) ≡ Some got
   pub exact : got.used ≡ length (volume_text network unit v)
   pub shares_are : shares_in got.volume ≡ v
   pub by_unit : explains network unit got.volume ≡ true
 
-again_shown : (x : Shown) (s : List ℕ) → Within x → (shown_text x ≡ [] → ⊥) → volume_at (shown_text x ++ s) ≡ Said (record { volume = volume_of x; used = length (shown_text x) })
+again_shown : (x : Shown) (s : List ℕ) → Within x → (shown_text x ≡ [] → ⊥) → volume_at (shown_text x ++ s) ≡ Some (record { volume = volume_of x; used = length (shown_text x) })
 unfolding shown_text
 again_shown unsaid s w h = absurd (h refl)
 again_shown (said n m) s (said_within w) h = shown_again n m s w

@@ -8,8 +8,9 @@ use mathlib.Core.Bool.{Bool, true, false, ◌&&◌, ◌||◌, not}
 use mathlib.Core.List.{List, [], ◌∷◌, ◌++◌}
 use lib.ListN.{length, get_or, take, drop, drop_of_length-le, length-drop, length-append}
 use lib.Seq.{drop-cons, take_all, take_at}
-use lib.Dec.{leb, ltb, eqb}
-use borrow.Author.Tests.{lt-leb, le-leb, lt-ltb, le-ltb, ne_eqb, ltb-true, ltb-false, eqb-true, not-true, not-false}
+use lib.Dec.{ltb, eqb}
+use borrow.Author.Tests.{lt-ltb, le-ltb, ltb-true, ltb-false, eqb-true, not-true, not-false}
+use Rattle.std.specs.Prelude.{Option, Some, None}
 use Rattle.text.specs.Bytes.{bytes}
 use Rattle.text.specs.Pick.{pick, same}
 use Rattle.text.specs.Put.{put, Written}
@@ -24,42 +25,9 @@ use Rattle.print_volume.proofs.Lengths.{group_length}
 use Rattle.read_price.specs.declared.Digits.{Digits}
 use Rattle.read_volume.specs.declared.Volume.{Volume}
 use Rattle.read_volume.specs.declared.Volume.TheVariants.{Hundreds, Tens, Shares}
-use Rattle.read_volume.specs.declared.VolumeAnswer.{VolumeAnswer}
-use Rattle.read_volume.specs.declared.VolumeAnswer.TheVariants.{Said, NoVolume}
 use Rattle.read_volume.specs.Volume.{is_figure, figure_onto, figures_onto, said_by, marked_by, volume_at}
+use Rattle.read_volume.specs.declared.VolumeRead.{VolumeRead}
 use Rattle.read_price.proofs.Bounds.{digit_from, digit_to, Counted, counted_none, counted_one}
-
--- ---- a digit, a figure at i
-
-module _ (s : List ℕ) (i : ℕ) where
-  pub digit_ended : length s ≤ i → false ≡ heads is_digit (drop i s)
-  digit_ended h = rw (drop_of_length-le s h)
-
-  pub digit_low : i < length s → get_or s i 0 < 48 → false ≡ heads is_digit (drop i s)
-  unfolding is_digit
-  digit_low h l = rw (drop-cons s i 0 h, lt-leb 48 _ l)
-
-  pub digit_last : i < length s → 48 ≤ get_or s i 0 → leb (get_or s i 0) 57 ≡ heads is_digit (drop i s)
-  unfolding is_digit
-  digit_last h l = rw (drop-cons s i 0 h, le-leb 48 _ l)
-
-  pub figure_ended : length s ≤ i → false ≡ is_figure (drop i s)
-  unfolding is_figure
-  figure_ended h = rw (drop_of_length-le s h)
-
-  pub figure_dot : (r : Bool) → i < length s → get_or s i 0 ≡ 44 → r ≡ heads is_digit (drop (i + 1) s) → r ≡ is_figure (drop i s)
-  unfolding is_figure is_digit
-  figure_dot r h q e = rw (drop-cons s i 0 h, q, ← add-one i) e
-
-  pub figure_digit : (r : Bool) → i < length s → (get_or s i 0 ≡ 44 → ⊥) → r ≡ heads is_digit (drop i s) → r ≡ is_figure (drop i s)
-  unfolding is_figure
-  figure_digit r h q e = rw (drop-cons s i 0 h, ne_eqb _ 44 q) (rw (drop-cons s i 0 h) at e ∙ or_no (is_digit (get_or s i 0)))
-    where
-      or_no : (b : Bool) → b ≡ (b || false)
-      or_no true = refl
-      or_no false = refl
-
-pub ruleset places = (digit_ended, digit_low, digit_last, figure_ended, figure_dot, figure_digit)
 
 -- ---- a figure behind others
 
@@ -130,16 +98,22 @@ some_there s i h = go (ltb i (length s)) refl
     go true e = ltb-true i (length s) e
     go false e = let z : ◌≡◌ {A = Bool} false true = rw (drop_of_length-le s (ltb-false i (length s) e)) at h in absurd (let y : ◌≡◌ {A = ℕ} 0 1 = cc in omega arith)
 
-module _ (s : List ℕ) (i : ℕ) (r : Bool) (e : r ≡ is_figure (drop i s)) where
+module _ (s : List ℕ) (i : ℕ) (r : Bool) (e : r ≡ is_figure (take (length s - i) (drop i s))) where
+  found_there : is_figure (drop i s) ≡ r
+  found_there = ap is_figure (sym (take_all (length s - i) (drop i s) (rw length-drop (omega arith)))) ∙ sym e
+
   pub figure_there : not r ≡ false → i < length s
-  figure_there h = some_there s i (sym e ∙ not-false r h)
+  figure_there h = some_there s i (found_there ∙ not-false r h)
+
+  pub one_more : not r ≡ false → i + 1 ≤ length s
+  one_more h = omega (arith, figure_there h)
 
   at_i : not r ≡ false → is_figure (get_or s i 0 ∷ drop (suc i) s) ≡ true
-  at_i h = ap is_figure (sym (drop-cons s i 0 (figure_there h))) ∙ (sym e ∙ not-false r h)
+  at_i h = ap is_figure (sym (drop-cons s i 0 (figure_there h))) ∙ (found_there ∙ not-false r h)
 
   module _ (a : ℕ) (x : Digits) where
     pub figures_no : figures_onto (12 - i) a i (drop i s) ≡ x → not r ≡ true → (record { count = i; value = a }) ≡ x
-    figures_no q h = sym (figures_stop (12 - i) a i (drop i s) (sym e ∙ not-true r h)) ∙ q
+    figures_no q h = sym (figures_stop (12 - i) a i (drop i s) (found_there ∙ not-true r h)) ∙ q
 
     pub figures_on : (v : ℕ) → figures_onto (12 - i) a i (drop i s) ≡ x → i < 12 → not r ≡ false → v ≡ figure_onto a (get_or s i 0) → figures_onto (12 - (i + 1)) v (i + 1) (drop (i + 1) s) ≡ x
     figures_on v q l h w =
@@ -150,9 +124,12 @@ module _ (s : List ℕ) (i : ℕ) (r : Bool) (e : r ≡ is_figure (drop i s)) wh
   pub figures_small : (a v : ℕ) → a < 10 ^ i → not r ≡ false → v ≡ figure_onto a (get_or s i 0) → v < 10 ^ (i + 1)
   figures_small a v h k w = rw (w, add-one i) (onto_small a (get_or s i 0) i h (figure_to (get_or s i 0) (drop (suc i) s) (at_i k)))
 
-pub figures_twelve : (s : List ℕ) (i a : ℕ) (x : Digits) → figures_onto (12 - i) a i (drop i s) ≡ x → 12 ≤ i → (record { count = i; value = a }) ≡ x
+pub figures_twelve : (s : List ℕ) (i a : ℕ) (x : Digits) → figures_onto (12 - i) a i (drop i s) ≡ x → i ≤ 12 → 12 ≤ i → (record { count = 12; value = a }) ≡ x
 unfolding figures_onto
-figures_twelve s i a x e h = let z : 12 - i ≡ 0 = omega arith in rw (← e, z)
+figures_twelve s i a x e k h =
+    let q : i ≡ 12 = omega arith in
+    let z : 12 - i ≡ 0 = omega arith in
+    rw (← e, z, q)
 
 pub onto_room : (a i : ℕ) → a < 10 ^ i → i < 12 → a < 1000000000000
 onto_room a i h k = omega (arith, pow-le-pow_right {n = 10} (omega arith) {i = i} {j = 11} (omega arith))
@@ -193,7 +170,7 @@ volume_long n h = go (ltb n 10000) (ltb n 1000000) refl refl
     go false false e f = simp (length-append, ← group_length) (omega (arith, length_decimal 2 (n / 1000000) (omega arith)))
 
 module _ (s : List ℕ) (f : Digits) (v : Volume) (k : ℕ) where
-  pub said_many : 1000000000 ≤ f.value → NoVolume ≡ said_by s f v k
+  pub said_many : 1000000000 ≤ f.value → None ≡ said_by s f v k
   unfolding said_by pick
   said_many h = rw (le-ltb f.value 1000000000 h)
 
@@ -202,13 +179,13 @@ module _ (s : List ℕ) (f : Digits) (v : Volume) (k : ℕ) where
     unfolding put
     asked = sym (e ∙ ap (same (take f.count s)) (ap (take n) w.tape ∙ take_at (full_volume f.value) _ n (sym w.count_is)))
 
-    pub said_yes : r ≡ true → Said (record { volume = v; used = f.count + k }) ≡ said_by s f v k
+    pub said_yes : not r ≡ false → Some (record { volume = v; used = f.count + k }) ≡ said_by s f v k
     unfolding said_by pick
-    said_yes q = rw (lt-ltb f.value 1000000000 h, asked, q)
+    said_yes q = rw (lt-ltb f.value 1000000000 h, asked, not-false r q)
 
-    pub said_no : r ≡ false → NoVolume ≡ said_by s f v k
+    pub said_no : not r ≡ true → None ≡ said_by s f v k
     unfolding said_by pick
-    said_no q = rw (lt-ltb f.value 1000000000 h, asked, q)
+    said_no q = rw (lt-ltb f.value 1000000000 h, asked, not-true r q)
 
 -- ---- the mark behind the figures f
 
@@ -224,20 +201,20 @@ module _ (s : List ℕ) (f : Digits) (e : f ≡ figures_onto 12 0 0 s) where
   marked = rw (← e, whole)
 
   module _ (x : Bool) (h : x ≡ starts (bytes "s") rest) where
-    pub volume_hundreds : (r : VolumeAnswer) → x ≡ true → r ≡ said_by s f (Hundreds f.value) 1 → r ≡ volume_at s
+    pub volume_hundreds : (r : Option VolumeRead) → x ≡ true → r ≡ said_by s f (Hundreds f.value) 1 → r ≡ volume_at s
     unfolding marked_by pick
     volume_hundreds r k q = rw (marked, ← h, k) q
 
     module _ (k : x ≡ false) (y : Bool) (g : y ≡ starts (bytes "$") rest) where
-      pub volume_tens : (r : VolumeAnswer) → y ≡ true → r ≡ said_by s f (Tens f.value) 1 → r ≡ volume_at s
+      pub volume_tens : (r : Option VolumeRead) → y ≡ true → r ≡ said_by s f (Tens f.value) 1 → r ≡ volume_at s
       unfolding marked_by pick
       volume_tens r l q = rw (marked, ← h, k, ← g, l) q
 
       module _ (l : y ≡ false) (z : Bool) (i : z ≡ starts (bytes "SHRS") rest) where
-        pub volume_shares : (r : VolumeAnswer) → z ≡ true → r ≡ said_by s f (Shares f.value) 4 → r ≡ volume_at s
+        pub volume_shares : (r : Option VolumeRead) → z ≡ true → r ≡ said_by s f (Shares f.value) 4 → r ≡ volume_at s
         unfolding marked_by pick
         volume_shares r m q = rw (marked, ← h, k, ← g, l, ← i, m) q
 
-        pub volume_none : z ≡ false → NoVolume ≡ volume_at s
+        pub volume_none : z ≡ false → None ≡ volume_at s
         unfolding marked_by pick
         volume_none m = rw (marked, ← h, k, ← g, l, ← i, m)

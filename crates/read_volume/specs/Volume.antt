@@ -1,5 +1,5 @@
 -- A volume at the front of a tape (document 01, "Volume"), and the networks and units under which a volume prints so. Assumes nothing.
-use Rattle.std.specs.Prelude.{ℕ, suc, zero, ◌+◌, ◌*◌, ◌-◌, ◌%◌, Bool, false, ◌&&◌, ◌||◌, not, List, [], ◌∷◌, ◌++◌, eqb, leb, ltb, take, drop}
+use Rattle.std.specs.Prelude.{ℕ, suc, zero, ◌+◌, ◌*◌, ◌-◌, ◌%◌, Bool, false, ◌&&◌, ◌||◌, not, List, [], ◌∷◌, ◌++◌, eqb, leb, ltb, take, drop, Option, Some, None}
 use Rattle.text.specs.Bytes.{bytes}
 use Rattle.text.specs.Pick.{pick, same}
 use Rattle.text.specs.Reading.{heads, is_digit, starts}
@@ -9,8 +9,7 @@ use Rattle.print_volume.specs.Reading.{digit, dot, stop, figure}
 use Rattle.read_price.specs.declared.Digits.{Digits}
 use Rattle.read_volume.specs.declared.Volume.{Volume}
 use Rattle.read_volume.specs.declared.Volume.TheVariants.{Unsaid, Hundreds, Tens, Shares}
-use Rattle.read_volume.specs.declared.VolumeAnswer.{VolumeAnswer}
-use Rattle.read_volume.specs.declared.VolumeAnswer.TheVariants.{Said, NoVolume}
+use Rattle.read_volume.specs.declared.VolumeRead.{VolumeRead}
 
 -- a digit, or a figure dot before a digit
 unfoldable pub is_figure : List ℕ → Bool
@@ -36,17 +35,17 @@ abbrev pub figures_at : List ℕ → Digits
 figures_at s = figures_onto 12 0 0 s
 
 -- the figures are exactly a full volume's, below 1,000,000,000: then the volume v, which has k bytes of mark behind them
-unfoldable pub said_by : List ℕ → Digits → Volume → ℕ → VolumeAnswer
-said_by s f v k = pick (ltb f.value 1000000000 && same (take f.count s) (full_volume f.value)) (Said (record { volume = v; used = f.count + k })) NoVolume
+unfoldable pub said_by : List ℕ → Digits → Volume → ℕ → Option VolumeRead
+said_by s f v k = pick (ltb f.value 1000000000 && same (take f.count s) (full_volume f.value)) (Some (record { volume = v; used = f.count + k })) None
 
 -- what stands behind the figures tells what they count
-unfoldable pub marked_by : List ℕ → Digits → List ℕ → VolumeAnswer
+unfoldable pub marked_by : List ℕ → Digits → List ℕ → Option VolumeRead
 marked_by s f rest =
     pick (starts (bytes "s") rest) (said_by s f (Hundreds f.value) 1)
     (pick (starts (bytes "$") rest) (said_by s f (Tens f.value) 1)
-    (pick (starts (bytes "SHRS") rest) (said_by s f (Shares f.value) 4) NoVolume))
+    (pick (starts (bytes "SHRS") rest) (said_by s f (Shares f.value) 4) None))
 
-unfoldable pub volume_at : List ℕ → VolumeAnswer
+unfoldable pub volume_at : List ℕ → Option VolumeRead
 volume_at s = marked_by s (figures_at s) (drop (figures_at s).count s)
 
 -- the number of shares that is shown so: nothing is 100; hundreds and tens are counted below 10,000, full from there

@@ -14,8 +14,8 @@ slice_bounds-same_text-end c = search counted
 pub slice_bounds-same_text-end-2 : goal.slice_bounds-same_text-end-2
 slice_bounds-same_text-end-2 c = search front_length
 
-pub returns-then-same_text : goal.returns-then-same_text
-returns-then-same_text c = search said_yes
+pub returns-then-not-same_text : goal.returns-then-not-same_text
+returns-then-not-same_text c = search said_no
 
 pub returns : goal.returns
-returns c = search said_no
+returns c = search said_yes
