@@ -6,6 +6,7 @@ use mathlib.Core.Bool.{Bool, true, false, ◌&&◌, ◌||◌}
 use mathlib.Core.List.{List}
 use lib.ListN.{drop}
 use lib.Dec.{eqb, ltb}
+use Rattle.std.specs.Prelude.{Option, Some, None}
 use Rattle.text.specs.Pick.{pick}
 use Rattle.text.proofs.Texts.{and_left, and_right}
 use Rattle.text.proofs.Booleans.{or_first}
@@ -13,8 +14,7 @@ use Rattle.rules.specs.declared.Letters.{Letters}
 use Rattle.rules.specs.declared.Price.{Price}
 use Rattle.rules.specs.declared.Side.{Side}
 use Rattle.read_price.specs.declared.Digits.{Digits}
-use Rattle.read_price.specs.declared.PriceAnswer.{PriceAnswer}
-use Rattle.read_price.specs.declared.PriceAnswer.TheVariants.{Priced, NoPrice}
+use Rattle.read_price.specs.declared.PriceRead.{PriceRead}
 use Rattle.read_conditions.specs.declared.Taken.{Taken}
 use Rattle.read_conditions.specs.Tail.{plus_cash, plus_average, plus_stopped, plus_seller, plus_rule, plus_previous, side_with, further, takes_cash, cash_at, takes_average, average_at, takes_stopped, stopped_at, seller_days, seller_by, seller_at, takes_rule, rule_at, previous_in, previous_by, previous_at, after_price_at, at_end_at, tail_at}
 use Rattle.read_conditions.proofs.Standing.{kept, cash_keeps, average_keeps, stopped_keeps, seller_keeps, rule_keeps}
@@ -22,10 +22,10 @@ use Rattle.read_conditions.proofs.Standing.{kept, cash_keeps, average_keeps, sto
 -- ---- of the side
 
 module _ {A : Type 0} (f : Side → A) where
-  by_previous_keeps : (st : Taken) → ((p : Price) → f (side_with st.side (plus_previous st.side.letters) st.side.days p) ≡ f st.side) → (x : PriceAnswer) → f (previous_by st x).side ≡ f st.side
+  by_previous_keeps : (st : Taken) → ((p : Price) → f (side_with st.side (plus_previous st.side.letters) st.side.days p) ≡ f st.side) → (x : Option PriceRead) → f (previous_by st x).side ≡ f st.side
   unfolding previous_by further
-  by_previous_keeps st h NoPrice = refl
-  by_previous_keeps st h (Priced p) = h p.price
+  by_previous_keeps st h None = refl
+  by_previous_keeps st h (Some p) = h p.price
 
   pub previous_keeps : (s : List ℕ) (st : Taken) → ((p : Price) → f (side_with st.side (plus_previous st.side.letters) st.side.days p) ≡ f st.side) → f (previous_at s st).side ≡ f st.side
   unfolding previous_at
@@ -143,10 +143,10 @@ module _ (s : List ℕ) (st : Taken) where
   unfolding rule_at takes_rule further
   rule_explained = chosen (takes_rule s st) st _ (λ h. record { a_was = λ q. q; b_was = λ q. absurd (never q); some = λ q. or_first st.a false (and_left st.a _ (and_right (ltb st.count 4) _ h)) })
 
-  by_previous_explained : st.b ≡ true → (x : PriceAnswer) → Explained st (previous_by st x)
+  by_previous_explained : st.b ≡ true → (x : Option PriceRead) → Explained st (previous_by st x)
   unfolding previous_by further
-  by_previous_explained h NoPrice = alike st st refl refl
-  by_previous_explained h (Priced p) = record { a_was = λ q. absurd (never q); b_was = λ q. q; some = λ q. h }
+  by_previous_explained h None = alike st st refl refl
+  by_previous_explained h (Some p) = record { a_was = λ q. absurd (never q); b_was = λ q. q; some = λ q. h }
 
   previous_explained : Explained st (previous_at s st)
   unfolding previous_at

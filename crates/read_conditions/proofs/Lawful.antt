@@ -7,6 +7,7 @@ use mathlib.Core.List.{List}
 use lib.ListN.{drop}
 use lib.Dec.{eqb, ltb}
 use borrow.Author.Tests.{eqb-false, ltb-true, not-true}
+use Rattle.std.specs.Prelude.{Option, Some, None}
 use Rattle.text.specs.Bytes.{bytes}
 use Rattle.text.specs.Pick.{pick}
 use Rattle.text.specs.Reading.{starts}
@@ -15,11 +16,10 @@ use Rattle.rules.specs.declared.Letters.{Letters}
 use Rattle.rules.specs.declared.Side.{Side}
 use Rattle.print_price.specs.Sound.{Sound}
 use Rattle.read_price.specs.declared.Digits.{Digits}
-use Rattle.read_price.specs.declared.PriceAnswer.{PriceAnswer}
-use Rattle.read_price.specs.declared.PriceAnswer.TheVariants.{Priced, NoPrice}
 use Rattle.read_price.specs.Digits.{digits_at}
 use Rattle.read_price.proofs.Bounds.{digits_below}
 use Rattle.read_price.proofs.Text.{digits_some, price_sound, price_some}
+use Rattle.read_price.specs.declared.PriceRead.{PriceRead}
 use Rattle.read_conditions.specs.declared.Taken.{Taken}
 use Rattle.read_conditions.specs.Tail.{plus_cash, plus_average, plus_stopped, plus_seller, plus_rule, plus_previous, side_with, further, takes_cash, cash_at, takes_average, average_at, takes_stopped, stopped_at, seller_days, seller_by, seller_at, takes_rule, rule_at, previous_in, previous_by, previous_at, after_price_at, at_end_at, tail_at}
 use Rattle.read_conditions.proofs.Steps.{previous_found}
@@ -138,10 +138,10 @@ module _ (s : List ℕ) (st : Taken) (l : Lawful st) where
       let g = and_right (ltb st.count 4) _ h in
       by_seller_lawful (few st l _ h) (not-true st.side.letters.m (and_left (not st.side.letters.m) _ g)) (not-true st.side.letters.k (and_right (not st.side.letters.m) _ g)) r (seller_days (drop st.used s)) refl) l
 
-  by_previous_lawful : st.count < 4 → st.side.letters.g ≡ false → (x : PriceAnswer) → previous_in (drop st.used s) ≡ x → Lawful (previous_by st x)
+  by_previous_lawful : st.count < 4 → st.side.letters.g ≡ false → (x : Option PriceRead) → previous_in (drop st.used s) ≡ x → Lawful (previous_by st x)
   unfolding previous_by side_with plus_previous letter_count one
-  by_previous_lawful h g NoPrice e = l
-  by_previous_lawful h g (Priced p) e =
+  by_previous_lawful h g None e = l
+  by_previous_lawful h g (Some p) e =
       let f = (previous_found (drop st.used s) p e).price in
       more_lawful st l _ (13 + p.used) false st.b h (omega (arith, ap one g)) l.m_k l.m_r l.k_r (λ q. absurd (never false refl q)) l.on_b l.days (λ z. (price_sound _ p f, price_some _ p f))
 

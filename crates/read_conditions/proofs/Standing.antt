@@ -9,6 +9,7 @@ use lib.ListN.{length, take, drop, length-drop}
 use lib.Seq.{take-add, drop-drop}
 use lib.Dec.{eqb, ltb}
 use borrow.Author.Tests.{eqb-true, eqb-false}
+use Rattle.std.specs.Prelude.{Option, Some, None}
 use Rattle.text.specs.Bytes.{bytes}
 use Rattle.text.specs.Pick.{pick, opt}
 use Rattle.text.specs.Decimal.{decimal}
@@ -23,8 +24,6 @@ use Rattle.rules.specs.declared.Letters.{Letters}
 use Rattle.rules.specs.declared.Side.{Side}
 use Rattle.read_price.specs.declared.Digits.{Digits}
 use Rattle.read_price.specs.declared.PriceRead.{PriceRead}
-use Rattle.read_price.specs.declared.PriceAnswer.{PriceAnswer}
-use Rattle.read_price.specs.declared.PriceAnswer.TheVariants.{Priced, NoPrice}
 use Rattle.read_price.specs.Digits.{digits_at, zero_first}
 use Rattle.read_price.proofs.Text.{digits_decimal, price_text_lem}
 use Rattle.read_conditions.specs.declared.Taken.{Taken}
@@ -202,7 +201,7 @@ module _ (s : List ℕ) (u : ℕ) (st : Taken) (b : st.side.letters.r ≡ false)
 
 -- ---- previous last
 
-previous_text_lem : (s : List ℕ) (p : PriceRead) → previous_in s ≡ Priced p → take (13 + p.used) s ≡ previous_text p.price
+previous_text_lem : (s : List ℕ) (p : PriceRead) → previous_in s ≡ Some p → take (13 + p.used) s ≡ previous_text p.price
 unfolding previous_text
 previous_text_lem s p h =
     let f = previous_found s p h in
@@ -215,10 +214,10 @@ module _ (s : List ℕ) (u : ℕ) (st : Taken) (b : st.side.letters.g ≡ false)
   unfolding last_text
   stays_last = rw (none_more (rule_text st.side) st.side.letters.g (previous_text st.side.previous) b) r
 
-  by_last : (x : PriceAnswer) → previous_in (drop st.used s) ≡ x → Reads s u (previous_by st x) (last_text (previous_by st x).side)
+  by_last : (x : Option PriceRead) → previous_in (drop st.used s) ≡ x → Reads s u (previous_by st x) (last_text (previous_by st x).side)
   unfolding previous_by further last_text rule_text days_text stopped_text average_text cash_text side_with plus_previous opt
-  by_last NoPrice e = stays_last
-  by_last (Priced p) e =
+  by_last None e = stays_last
+  by_last (Some p) e =
       grown s u (13 + p.used) st (further st (side_with st.side (plus_previous st.side.letters) st.side.days p.price) (13 + p.used) false st.b) (rule_text st.side) (previous_text p.price) r
       (record {
         room = omega (arith, previous_length (drop st.used s) p e, length-drop st.used s);

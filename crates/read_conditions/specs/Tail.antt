@@ -1,6 +1,6 @@
 -- The conditions after a price and at the end (document 01, "Price and conditions"), each taken where its text stands and a line may have it.
 -- Assumes nothing.
-use Rattle.std.specs.Prelude.{ℕ, ◌+◌, Bool, true, false, ◌&&◌, not, List, eqb, ltb, drop}
+use Rattle.std.specs.Prelude.{ℕ, ◌+◌, Bool, true, false, ◌&&◌, not, List, eqb, ltb, drop, Option, Some, None}
 use Rattle.text.specs.Bytes.{bytes}
 use Rattle.text.specs.Pick.{pick}
 use Rattle.text.specs.Reading.{starts}
@@ -8,10 +8,9 @@ use Rattle.rules.specs.declared.Letters.{Letters}
 use Rattle.rules.specs.declared.Price.{Price}
 use Rattle.rules.specs.declared.Side.{Side}
 use Rattle.read_price.specs.declared.Digits.{Digits}
-use Rattle.read_price.specs.declared.PriceAnswer.{PriceAnswer}
-use Rattle.read_price.specs.declared.PriceAnswer.TheVariants.{Priced, NoPrice}
 use Rattle.read_price.specs.Digits.{digits_at}
 use Rattle.read_price.specs.Price.{price_at}
+use Rattle.read_price.specs.declared.PriceRead.{PriceRead}
 use Rattle.read_conditions.specs.declared.Taken.{Taken}
 
 -- ---- a side with one letter more
@@ -86,16 +85,16 @@ unfoldable pub rule_at : List ℕ → Taken → Taken
 rule_at s st = pick (takes_rule s st) (further st (side_with st.side (plus_rule st.side.letters) st.side.days st.side.previous) 7 st.a false) st
 
 -- a price with the end pair behind it
-unfoldable pub closed_by : List ℕ → PriceAnswer → PriceAnswer
-closed_by s (Priced p) = pick (starts (bytes ">>") (drop p.used s)) (Priced p) NoPrice
-closed_by s NoPrice = NoPrice
+unfoldable pub closed_by : List ℕ → Option PriceRead → Option PriceRead
+closed_by s (Some p) = pick (starts (bytes ">>") (drop p.used s)) (Some p) None
+closed_by s None = None
 
-unfoldable pub previous_in : List ℕ → PriceAnswer
-previous_in s = pick (starts (bytes ">>PREV.LAST") s) (closed_by (drop 11 s) (price_at (drop 11 s))) NoPrice
+unfoldable pub previous_in : List ℕ → Option PriceRead
+previous_in s = pick (starts (bytes ">>PREV.LAST") s) (closed_by (drop 11 s) (price_at (drop 11 s))) None
 
-unfoldable pub previous_by : Taken → PriceAnswer → Taken
-previous_by st (Priced p) = further st (side_with st.side (plus_previous st.side.letters) st.side.days p.price) (13 + p.used) false st.b
-previous_by st NoPrice = st
+unfoldable pub previous_by : Taken → Option PriceRead → Taken
+previous_by st (Some p) = further st (side_with st.side (plus_previous st.side.letters) st.side.days p.price) (13 + p.used) false st.b
+previous_by st None = st
 
 -- network B only
 unfoldable pub previous_at : List ℕ → Taken → Taken

@@ -1,12 +1,9 @@
-use Rattle.read_conditions.proofs.Steps.{last}
+use Rattle.read_conditions.proofs.Steps.{last_fits, last_room}
 use borrow.Author.Rules.{rules}
 use Rattle.read_conditions.proofs.previous_at.Goals as goal
 
-pub returns-then-st-ge4 : goal.returns-then-st-ge4
-returns-then-st-ge4 c = (search last, search rules)
+pub overflow_add-p : goal.overflow_add-p
+overflow_add-p c = record { fits = search last_fits }
 
-pub returns-then-not-st : goal.returns-then-not-st
-returns-then-not-st c = (search last, search rules)
-
-pub returns : goal.returns
-returns c = (search last, search rules)
+pub further-taken-requires : goal.further-taken-requires
+further-taken-requires c = (search last_room, search rules)

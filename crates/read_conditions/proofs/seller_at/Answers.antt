@@ -1,15 +1,9 @@
-use Rattle.read_conditions.proofs.Steps.{seller}
+use Rattle.read_conditions.proofs.Steps.{days_fit, days_room}
 use borrow.Author.Rules.{rules}
 use Rattle.read_conditions.proofs.seller_at.Goals as goal
 
-pub returns-then-st-ge4 : goal.returns-then-st-ge4
-returns-then-st-ge4 c = (search seller, search rules)
+pub overflow_add-days : goal.overflow_add-days
+overflow_add-days c = record { fits = search days_fit }
 
-pub returns-then-st : goal.returns-then-st
-returns-then-st c = (search seller, search rules)
-
-pub returns-then-st-2 : goal.returns-then-st-2
-returns-then-st-2 c = (search seller, search rules)
-
-pub returns : goal.returns
-returns c = (search seller, search rules)
+pub further-requires : goal.further-requires
+further-requires c = (search days_room, search rules)
