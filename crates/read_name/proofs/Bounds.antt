@@ -9,6 +9,7 @@ use lib.ListN.{length, take, drop, length-drop}
 use lib.Seq.{length-take-le}
 use lib.Dec.{eqb, leb}
 use borrow.Author.Tests.{leb-true}
+use Rattle.std.specs.Prelude.{Option, Some, None}
 use Rattle.text.specs.Bytes.{bytes}
 use Rattle.text.specs.Pick.{pick, member}
 use Rattle.text.specs.Reading.{heads, starts}
@@ -16,18 +17,13 @@ use Rattle.text.proofs.Texts.{and_left, and_right}
 use Rattle.rules.specs.Tape.{is_letter, is_upper, is_raised}
 use Rattle.rules.specs.Columns.{between}
 use Rattle.rules.specs.Names.{is_suffix, is_reserved, listed_suffixes}
+use Rattle.rules.specs.declared.Letters.{Letters}
 use Rattle.text.proofs.Booleans.{or_cases}
 use Rattle.name_back.proofs.Parts.{each, member_each, class_ends, suffix_case}
 use Rattle.read_name.specs.Name.{count_of, ends_in, suffix_text, with_end, plain_end, ends_lawfully, lawful_root, appendage_of, name_on}
 use Rattle.read_name.specs.Head.{after_in, name_count, named_by, in_run, head_at, again_by, again_in, again_at}
-use Rattle.read_name.specs.declared.AfterAnswer.{AfterAnswer}
-use Rattle.read_name.specs.declared.AfterAnswer.TheVariants.{After, NoAfter}
 use Rattle.read_name.specs.declared.NameRead.{NameRead}
-use Rattle.read_name.specs.declared.NameAnswer.{NameAnswer}
-use Rattle.read_name.specs.declared.NameAnswer.TheVariants.{Named, NoName}
 use Rattle.read_name.specs.declared.AgainRead.{AgainRead}
-use Rattle.read_name.specs.declared.AgainAnswer.{AgainAnswer}
-use Rattle.read_name.specs.declared.AgainAnswer.TheVariants.{Again, NotAgain}
 use Rattle.read_name.proofs.Count.{count_within, name_within}
 use Rattle.read_name.proofs.Ends.{ends_room, before_cut}
 
@@ -127,12 +123,12 @@ record Parts (t : Bool) (name : List ℕ) (used : ℕ) (x : NameRead) : Type 0 w
 never : ◌≡◌ {A = ℕ} 0 1 → ⊥
 never z = omega arith
 
-parts : (t : Bool) (name : List ℕ) (used : ℕ) (after : AfterAnswer) (x : NameRead) → named_by t name used after ≡ Named x → Parts t name used x
+parts : (t : Bool) (name : List ℕ) (used : ℕ) (after : Option Letters) (x : NameRead) → named_by t name used after ≡ Some x → Parts t name used x
 unfolding named_by pick
-parts t name used NoAfter x h = absurd (never (cc))
-parts t name used (After letters) x h = go (name_on t 65 name) (name_on t 66 name) refl refl h
+parts t name used None x h = absurd (never (cc))
+parts t name used (Some letters) x h = go (name_on t 65 name) (name_on t 66 name) refl refl h
   where
-    go : (a b : Bool) → name_on t 65 name ≡ a → name_on t 66 name ≡ b → pick (a || b) (Named (record { length = length name; used = used; letters = letters; a = a; b = b })) NoName ≡ Named x → Parts t name used x
+    go : (a b : Bool) → name_on t 65 name ≡ a → name_on t 66 name ≡ b → pick (a || b) (Some (record { length = length name; used = used; letters = letters; a = a; b = b })) None ≡ Some x → Parts t name used x
     go true b e f k = record { used_is = cc; length_is = cc; some = name_some t 65 name e; short = name_most t 65 name e }
     go false true e f k = record { used_is = cc; length_is = cc; some = name_some t 66 name f; short = name_most t 66 name f }
     go false false e f k = absurd (never (cc))
@@ -145,7 +141,7 @@ unfolding run_of
 run_within s = let w = count_within is_upper 35 s in omega (arith, length-take-le (count_of is_upper 35 s) s w)
 
 -- r is what a caller was answered
-module _ (t : Bool) (s : List ℕ) (x : NameRead) (r : NameAnswer) (e : r ≡ head_at t s) (n : r ≡ Named x) where
+module _ (t : Bool) (s : List ℕ) (x : NameRead) (r : Option NameRead) (e : r ≡ head_at t s) (n : r ≡ Some x) where
   head_parts : Parts t (take (name_count (run_of s)) (run_of s)) (length (run_of s)) x
   unfolding head_at in_run run_of
   head_parts = parts t (take (name_count (run_of s)) (run_of s)) (length (run_of s)) (after_in (drop (name_count (run_of s)) (run_of s))) x (sym e ∙ n)
@@ -167,20 +163,20 @@ module _ (t : Bool) (s : List ℕ) (x : NameRead) (r : NameAnswer) (e : r ≡ he
 
 -- ---- the head of a correcting trade
 
-again_parts : (used : ℕ) (after : AfterAnswer) (x : AgainRead) → again_by used after ≡ Again x → x.used ≡ used
+again_parts : (used : ℕ) (after : Option Letters) (x : AgainRead) → again_by used after ≡ Some x → x.used ≡ used
 unfolding again_by
-again_parts used NoAfter x h = absurd (never (cc))
-again_parts used (After letters) x h = cc
+again_parts used None x h = absurd (never (cc))
+again_parts used (Some letters) x h = cc
 
-again_run : (name run : List ℕ) (x : AgainRead) → again_in name run ≡ Again x → x.used ≤ length run
+again_run : (name run : List ℕ) (x : AgainRead) → again_in name run ≡ Some x → x.used ≤ length run
 unfolding again_in pick
 again_run name [] x h = omega (arith, again_parts 0 (after_in []) x h)
 again_run name (c ∷ run) x h = go (starts name (c ∷ run)) h
   where
-    go : (b : Bool) → pick b (again_by (length (c ∷ run)) (after_in (drop (length name) (c ∷ run)))) NotAgain ≡ Again x → x.used ≤ length (c ∷ run)
+    go : (b : Bool) → pick b (again_by (length (c ∷ run)) (after_in (drop (length name) (c ∷ run)))) None ≡ Some x → x.used ≤ length (c ∷ run)
     go true k = omega (arith, again_parts (length (c ∷ run)) (after_in (drop (length name) (c ∷ run))) x k)
     go false k = absurd (never (cc))
 
-pub again_used : (name s : List ℕ) (x : AgainRead) (r : AgainAnswer) → r ≡ again_at name s → r ≡ Again x → x.used ≤ length s
+pub again_used : (name s : List ℕ) (x : AgainRead) (r : Option AgainRead) → r ≡ again_at name s → r ≡ Some x → x.used ≤ length s
 unfolding again_at run_of
 again_used name s x r e n = let w = run_within s in let u = again_run name (run_of s) x (sym e ∙ n) in omega arith

@@ -3,11 +3,10 @@ use Prim.Native.Nat.{ℕ, zero, suc, ◌+◌, ◌-◌, ◌≤◌, ◌<◌}
 use native.Mathlib.Numerals.{add-one}
 use native.Mathlib.Omega.{arith}
 use mathlib.Core.Path.{◌≡◌, refl, sym, ◌∙◌}
-use mathlib.Core.Bool.{Bool, true, false, not}
+use mathlib.Core.Bool.{Bool, true, false}
 use mathlib.Core.List.{List, [], ◌∷◌}
 use lib.ListN.{length, get_or, take, drop, drop_of_length-le}
 use lib.Seq.{drop-cons, length-take-le}
-use borrow.Author.Tests.{not-true, not-false}
 use Rattle.text.specs.Pick.{pick}
 use Rattle.text.proofs.Parts.{rest_is}
 use Rattle.name_back.specs.Cut.{is_after}
@@ -40,22 +39,22 @@ module _ (p : ℕ → Bool) (k : ℕ) (s : List ℕ) (i x : ℕ) (e : count_of p
   pub count_short : length s ≤ i → i ≡ x
   count_short h = let f : 0 + i ≡ x = rw (drop_of_length-le s h, count_none p (k - i)) at e in omega arith
 
-  pub count_full : k ≤ i → i ≡ x
-  count_full h =
+  pub count_full : i ≤ k → k ≤ i → k ≡ x
+  count_full l h =
       let z : k - i ≡ 0 = omega arith in
       let f : 0 + i ≡ x = rw (z, count_zero p (drop i s)) at e in
       omega arith
 
-  pub count_stop : i < k → i < length s → (r : Bool) → r ≡ p (get_or s i 0) → not r ≡ true → i ≡ x
+  pub count_stop : i < k → i < length s → (r : Bool) → r ≡ p (get_or s i 0) → r ≡ false → i ≡ x
   count_stop h l r q n =
       let z : k - i ≡ suc (k - suc i) = omega arith in
-      let f : 0 + i ≡ x = rw (z, drop-cons s i 0 l, count_no p (k - suc i) (get_or s i 0) (drop (suc i) s) (sym q ∙ not-true r n)) at e in
+      let f : 0 + i ≡ x = rw (z, drop-cons s i 0 l, count_no p (k - suc i) (get_or s i 0) (drop (suc i) s) (sym q ∙ n)) at e in
       omega arith
 
-  pub count_more : i < k → i < length s → (r : Bool) → r ≡ p (get_or s i 0) → not r ≡ false → count_of p (k - (i + 1)) (drop (i + 1) s) + (i + 1) ≡ x
+  pub count_more : i < k → i < length s → (r : Bool) → r ≡ p (get_or s i 0) → r ≡ true → count_of p (k - (i + 1)) (drop (i + 1) s) + (i + 1) ≡ x
   count_more h l r q n =
       let z : k - i ≡ suc (k - suc i) = omega arith in
-      let f : suc (count_of p (k - suc i) (drop (suc i) s)) + i ≡ x = rw (z, drop-cons s i 0 l, count_yes p (k - suc i) (get_or s i 0) (drop (suc i) s) (sym q ∙ not-false r n)) at e in
+      let f : suc (count_of p (k - suc i) (drop (suc i) s)) + i ≡ x = rw (z, drop-cons s i 0 l, count_yes p (k - suc i) (get_or s i 0) (drop (suc i) s) (sym q ∙ n)) at e in
       rw add-one (omega arith)
 
 pub count_within : (p : ℕ → Bool) (k : ℕ) (s : List ℕ) → count_of p k s ≤ length s
@@ -92,8 +91,8 @@ name_byte c s h = rw h
 
 -- i bytes are the name's, and x is how many are
 module _ (s : List ℕ) (i x : ℕ) (e : name_count (drop i s) + i ≡ x) where
-  pub cut_end : length s ≤ i → i ≡ x
-  cut_end h = let f : 0 + i ≡ x = rw (drop_of_length-le s h, name_none) at e in omega arith
+  pub cut_end : i ≤ length s → length s ≤ i → length s ≡ x
+  cut_end l h = let f : 0 + i ≡ x = rw (drop_of_length-le s h, name_none) at e in omega arith
 
   here : i < length s → (r : Bool) → r ≡ is_after (take (length s - i) (drop i s)) → is_after (get_or s i 0 ∷ drop (suc i) s) ≡ r
   here h r q = sym (rw (rest_is s i, drop-cons s i 0 h) at q)

@@ -2,23 +2,14 @@
 // "Reader"): which texts are names that an S line can enter, on which network, and where the name ends.
 #![tactic(auto)]
 
-ghost use Rattle.std.specs.Prelude.{◌≡◌, ◌&&◌, ◌||◌, not, ◌≤◌, length};
-ghost use Rattle.text.specs.Bytes.{bytes};
-ghost use Rattle.text.specs.Reading.{heads, starts};
+ghost use Rattle.std.specs.Prelude.{ℕ, ◌≡◌, ◌≤◌, Bool, length};
+ghost use Rattle.text.specs.Reading.{heads};
 ghost use Rattle.rules.specs.Tape.{is_letter, is_upper, is_raised};
-ghost use Rattle.rules.specs.Names.{is_suffix};
 ghost use Rattle.name_back.specs.Cut.{is_after};
-ghost use Rattle.read_name.specs.Name.{count_of, ends_in, suffix_text, with_end, plain_end, ends_lawfully, lawful_root, name_alone, name_on};
-ghost use Rattle.read_name.specs.Head.{letters_after, sold_in, after_in, name_count, named_by, in_run, head_at, again_by, again_in, again_at};
+ghost use Rattle.read_name.specs.Name.{count_of, suffix_text, with_end, plain_end, ends_lawfully, lawful_root, name_alone, name_on};
+ghost use Rattle.read_name.specs.Head.{letters_after, sold_in, after_in, name_count, named_by, in_run, head_at, again_in, again_at};
 
-use rules::Letters;
-
-// The conditions after a name, as letters, or none.
-#[derive(Clone, Copy)]
-pub enum AfterAnswer {
-    After(Letters),
-    NoAfter,
-}
+use rules::{Letters, NO_LETTERS};
 
 // A name at the front: its length, the bytes used with the conditions after it, those conditions, and on which networks an
 // S line can enter it.
@@ -31,12 +22,6 @@ pub struct NameRead {
     pub b: bool,
 }
 
-#[derive(Clone, Copy)]
-pub enum NameAnswer {
-    Named(NameRead),
-    NoName,
-}
-
 // The head of a correcting trade: the bytes used, and the conditions after the name.
 #[derive(Clone, Copy)]
 pub struct AgainRead {
@@ -44,274 +29,175 @@ pub struct AgainRead {
     pub letters: Letters,
 }
 
-#[derive(Clone, Copy)]
-pub enum AgainAnswer {
-    Again(AgainRead),
-    NotAgain,
-}
-
 // ---- bytes at the front
 
+#[tactic(auto, unfolding(rules::specs::Tape::is_upper))]
 fn is_upper(b: u8) -> bool
     ensures { result ≡ is_upper b }
 {
-    if name_words::is_letter(b) {
-        return true;
-    }
-    name_words::is_among(b, b"&.prw")
+    name_words::is_letter(b) || text::is_among(b, b"&.prw")
 }
 
-// The bytes of the upper row at the front, at most 35.
+// How many bytes at the front pass, at most `most`.
+fn count_of<F: Fn(u8) -> bool>(s: &[u8], most: usize, passes: F) -> usize
+    requires { F.IsAlwaysCallable passes }
+    ensures counted { (p : ℕ → Bool) → ((c : ℕ) (r : Bool) → F.post passes c r → r ≡ p c) → result ≡ count_of p most s.now }
+    ensures within { result ≤ length s.now }
+{
+    for i in 0..most {
+        if s.len() <= i || !passes(s[i]) {
+            return i;
+        }
+    }
+    most
+}
+
+// Of the upper row, at most 35.
 fn upper_count(s: &[u8]) -> usize
     ensures { (result ≡ count_of is_upper 35 s.now) × (result ≤ length s.now) }
 {
-    let mut i = 0;
-    while i < 35 {
-        if s.len() <= i {
-            return i;
-        }
-        if !is_upper(s[i]) {
-            return i;
-        }
-        i += 1;
-    }
-    i
+    count_of(s, 35, is_upper)
 }
 
-// The letters at the front, at most 7.
+// Letters, at most 7.
 fn letter_count(s: &[u8]) -> usize
     ensures { (result ≡ count_of is_letter 7 s.now) × (result ≤ length s.now) }
 {
-    let mut i = 0;
-    while i < 7 {
-        if s.len() <= i {
-            return i;
-        }
-        if !name_words::is_letter(s[i]) {
-            return i;
-        }
-        i += 1;
-    }
-    i
+    count_of(s, 7, name_words::is_letter)
 }
 
 // ---- what follows a root
 
-// The text e stands at the end.
-fn ends_in(s: &[u8], e: &[u8]) -> bool
-    ensures { result ≡ ends_in e.now s.now }
-{
-    if s.len() < e.len() {
-        return false;
-    }
-    let at = s.len() - e.len();
-    text::same_text(&s[at..], e)
-}
-
+#[tactic(auto, unfolding(rules::specs::Tape::is_raised, text::specs::Pick::among))]
 fn heads_raised(s: &[u8]) -> bool
     ensures { result ≡ heads is_raised s.now }
 {
-    if s.len() == 0 {
-        return false;
-    }
-    name_words::is_among(s[0], b"prw")
+    matches!(s, [b'p' | b'r' | b'w', ..])
 }
 
-// A suffix behind a letter dot: one that does not begin with a raised letter.
-fn dotted_suffix(s: &[u8]) -> bool
-    ensures { result ≡ (not (heads is_raised s.now) && is_suffix s.now) }
-{
-    if heads_raised(s) {
-        return false;
-    }
-    name_suffix::is_suffix(s)
-}
-
-// A suffix as a name shows it, or none.
+// A suffix as a name shows it, behind a letter dot unless it begins with a raised letter; or none.
+#[tactic(auto, unfolding(crate::specs::Name::suffix_text, text::specs::Pick::pick))]
 fn suffix_text(s: &[u8]) -> bool
     ensures { result ≡ suffix_text s.now }
 {
-    if s.len() == 0 {
-        return true;
+    match s {
+        [] => true,
+        [b'.', suffix @ ..] => !heads_raised(suffix) && name_suffix::is_suffix(suffix),
+        _ => heads_raised(s) && name_suffix::is_suffix(s),
     }
-    if s[0] == 46 {
-        return dotted_suffix(&s[1..]);
-    }
-    if heads_raised(s) {
-        return name_suffix::is_suffix(s);
-    }
-    false
 }
 
 // The temporary suffix e behind a suffix.
+#[tactic(auto, unfolding(crate::specs::Name::with_end), using(crate::proofs::Ends::ends_no))]
 fn with_end(s: &[u8], e: &[u8]) -> bool
     ensures { result ≡ with_end e.now s.now }
 {
-    if ends_in(s, e) {
-        let n = s.len() - e.len();
-        return suffix_text(&s[..n]);
+    match s.strip_suffix(e) {
+        Some(front) => suffix_text(front),
+        None => false,
     }
-    false
-}
-
-// One of the temporary suffixes behind a suffix.
-fn temporary_end(s: &[u8]) -> bool
-    ensures { result ≡ (with_end (bytes ".XD") s.now || (with_end (bytes ".XDIS") s.now || (with_end (bytes ".Xr") s.now || (with_end (bytes ".N") s.now || with_end (bytes ".XI") s.now)))) }
-{
-    if with_end(s, b".XD") {
-        return true;
-    }
-    if with_end(s, b".XDIS") {
-        return true;
-    }
-    if with_end(s, b".Xr") {
-        return true;
-    }
-    if with_end(s, b".N") {
-        return true;
-    }
-    with_end(s, b".XI")
 }
 
 // What follows a root, without an appendage.
+#[tactic(auto, unfolding(crate::specs::Name::plain_end))]
 fn plain_end(temporary: bool, s: &[u8]) -> bool
     ensures { result ≡ plain_end temporary s.now }
 {
-    if suffix_text(s) {
-        return true;
-    }
-    if temporary {
-        return temporary_end(s);
-    }
-    false
+    suffix_text(s)
+        || (temporary
+            && (with_end(s, b".XD")
+                || with_end(s, b".XDIS")
+                || with_end(s, b".Xr")
+                || with_end(s, b".N")
+                || with_end(s, b".XI")))
 }
 
 // What follows a root, with or without the appendage e.
+#[tactic(auto, unfolding(crate::specs::Name::ends_lawfully), using(crate::proofs::Ends::ends_no))]
 fn ends_lawfully(temporary: bool, e: &[u8], s: &[u8]) -> bool
     ensures { result ≡ ends_lawfully temporary e.now s.now }
 {
     if plain_end(temporary, s) {
         return true;
     }
-    if ends_in(s, e) {
-        let n = s.len() - e.len();
-        return plain_end(temporary, &s[..n]);
+    match s.strip_suffix(e) {
+        Some(front) => plain_end(temporary, front),
+        None => false,
     }
-    false
 }
 
 // ---- names
 
 // A root of 1 to 6 letters, not reserved.
+#[tactic(auto, unfolding(crate::specs::Name::lawful_root, rules::specs::Columns::between))]
 fn lawful_root(root: &[u8]) -> bool
     ensures { result ≡ lawful_root root.now }
 {
-    if root.len() < 1 {
-        return false;
-    }
-    if 6 < root.len() {
-        return false;
-    }
-    !name_suffix::is_reserved(root)
+    1 <= root.len() && root.len() <= 6 && !name_suffix::is_reserved(root)
 }
 
 // A name without an appendage: that of a security on either network.
+#[tactic(auto, unfolding(crate::specs::Name::name_alone))]
 fn is_name_alone(temporary: bool, name: &[u8]) -> bool
     ensures { result ≡ name_alone temporary name.now }
 {
-    let n = letter_count(name);
-    if !lawful_root(&name[..n]) {
-        return false;
-    }
-    plain_end(temporary, &name[n..])
+    let (root, end) = name.split_at(letter_count(name));
+    lawful_root(root) && plain_end(temporary, end)
 }
 
 // The name of a security on the network, 65 or 66.
+#[tactic(auto, unfolding(crate::specs::Name::name_on, crate::specs::Name::appendage_of, text::specs::Pick::pick))]
 fn name_on(temporary: bool, network: u64, name: &[u8]) -> bool
     ensures { result ≡ name_on temporary network name.now }
 {
-    let n = letter_count(name);
-    if !lawful_root(&name[..n]) {
-        return false;
-    }
-    if network == 65 {
-        return ends_lawfully(temporary, b".BC", &name[n..]);
-    }
-    ends_lawfully(temporary, b".DL", &name[n..])
+    let (root, end) = name.split_at(letter_count(name));
+    let appendage: &[u8] = if network == 65 { b".BC" } else { b".DL" };
+    lawful_root(root) && ends_lawfully(temporary, appendage, end)
 }
 
 // ---- the conditions after a name
 
-fn letters_after(m: bool, o: bool, s: bool, l: bool) -> Letters
-    ensures { result ≡ letters_after m o s l }
-{
-    Letters {
-        o,
-        s,
-        l,
-        n: false,
-        m,
-        c: false,
-        k: false,
-        b: false,
-        t: false,
-        r: false,
-        j: false,
-        g: false,
-    }
-}
-
 // Behind .ND or without it: .OPD, .SLD, .SLD.LAST or nothing.
-fn sold_in(m: bool, s: &[u8]) -> AfterAnswer
+#[tactic(auto, unfolding(crate::specs::Head::sold_in, crate::specs::Head::letters_after, text::specs::Pick::pick))]
+fn sold_in(m: bool, s: &[u8]) -> Option<Letters>
     ensures { result ≡ sold_in m s.now }
 {
+    let bare = Letters { m, ..NO_LETTERS };
     if text::same_text(s, b"") {
-        return AfterAnswer::After(letters_after(m, false, false, false));
+        Some(bare)
+    } else if text::same_text(s, b".OPD") {
+        Some(Letters { o: true, ..bare })
+    } else if text::same_text(s, b".SLD") {
+        Some(Letters { s: true, ..bare })
+    } else if text::same_text(s, b".SLD.LAST") {
+        Some(Letters { l: true, ..bare })
+    } else {
+        None
     }
-    if text::same_text(s, b".OPD") {
-        return AfterAnswer::After(letters_after(m, true, false, false));
-    }
-    if text::same_text(s, b".SLD") {
-        return AfterAnswer::After(letters_after(m, false, true, false));
-    }
-    if text::same_text(s, b".SLD.LAST") {
-        return AfterAnswer::After(letters_after(m, false, false, true));
-    }
-    AfterAnswer::NoAfter
 }
 
-fn after_in(s: &[u8]) -> AfterAnswer
+#[tactic(auto, unfolding(crate::specs::Head::after_in, text::specs::Pick::pick))]
+fn after_in(s: &[u8]) -> Option<Letters>
     ensures { result ≡ after_in s.now }
 {
-    if name_words::begins(b".ND", s) {
-        return sold_in(true, &s[3..]);
+    if text::begins(b".ND", s) {
+        sold_in(true, &s[3..])
+    } else {
+        sold_in(false, s)
     }
-    sold_in(false, s)
-}
-
-fn begins_condition(s: &[u8]) -> bool
-    ensures { result ≡ (starts (bytes "ND") s.now || (starts (bytes "OPD") s.now || starts (bytes "SLD") s.now)) }
-{
-    if name_words::begins(b"ND", s) {
-        return true;
-    }
-    if name_words::begins(b"OPD", s) {
-        return true;
-    }
-    name_words::begins(b"SLD", s)
 }
 
 // A condition begins here.
+#[tactic(auto, unfolding(name_back::specs::Cut::is_after))]
 fn is_after(s: &[u8]) -> bool
     ensures { result ≡ is_after s.now }
 {
-    if s.len() == 0 {
-        return false;
+    match s {
+        [b'.', word @ ..] => {
+            text::begins(b"ND", word) || text::begins(b"OPD", word) || text::begins(b"SLD", word)
+        }
+        _ => false,
     }
-    if s[0] == 46 {
-        return begins_condition(&s[1..]);
-    }
-    false
 }
 
 // ---- the head
@@ -320,99 +206,77 @@ fn is_after(s: &[u8]) -> bool
 fn name_count(run: &[u8]) -> usize
     ensures { (result ≡ name_count run.now) × (result ≤ length run.now) }
 {
-    let mut i = 0;
-    while i < run.len() {
+    for i in 0..run.len() {
         if is_after(&run[i..]) {
             return i;
         }
-        i += 1;
     }
-    i
+    run.len()
 }
 
-fn named_by(temporary: bool, name: &[u8], used: usize, after: AfterAnswer) -> NameAnswer
+#[tactic(auto, unfolding(crate::specs::Head::named_by, text::specs::Pick::pick), using(crate::proofs::Ends::alone_on))]
+fn named_by(temporary: bool, name: &[u8], used: usize, after: Option<Letters>) -> Option<NameRead>
     ensures { result ≡ named_by temporary name.now used after }
 {
-    let AfterAnswer::After(letters) = after else {
-        return NameAnswer::NoName;
+    let read = NameRead {
+        length: name.len(),
+        used,
+        letters: after?,
+        a: true,
+        b: true,
     };
-    let length = name.len();
     if is_name_alone(temporary, name) {
-        return NameAnswer::Named(NameRead {
-            length,
-            used,
-            letters,
-            a: true,
-            b: true,
-        });
+        return Some(read);
     }
     let a = name_on(temporary, 65, name);
     let b = name_on(temporary, 66, name);
-    if a {
-        return NameAnswer::Named(NameRead {
-            length,
-            used,
-            letters,
-            a,
-            b,
-        });
+    if a || b {
+        Some(NameRead { a, b, ..read })
+    } else {
+        None
     }
-    if b {
-        return NameAnswer::Named(NameRead {
-            length,
-            used,
-            letters,
-            a,
-            b,
-        });
-    }
-    NameAnswer::NoName
 }
 
-fn in_run(temporary: bool, run: &[u8]) -> NameAnswer
+#[tactic(auto, unfolding(crate::specs::Head::in_run))]
+fn in_run(temporary: bool, run: &[u8]) -> Option<NameRead>
     ensures { result ≡ in_run temporary run.now }
 {
-    let n = name_count(run);
-    let after = after_in(&run[n..]);
-    named_by(temporary, &run[..n], run.len(), after)
+    let (name, after) = run.split_at(name_count(run));
+    named_by(temporary, name, run.len(), after_in(after))
 }
 
 // The head of a trade, whose temporary suffix may show, or of a side of a C, X or E line.
-pub fn head_at(s: &[u8], temporary: bool) -> NameAnswer
+#[tactic(auto, unfolding(crate::specs::Head::head_at))]
+pub fn head_at(s: &[u8], temporary: bool) -> Option<NameRead>
     ensures { result ≡ head_at temporary s.now }
 {
-    let n = upper_count(s);
-    in_run(temporary, &s[..n])
+    in_run(temporary, &s[..upper_count(s)])
 }
 
 // ---- the head of a correcting trade
 
-fn again_by(used: usize, after: AfterAnswer) -> AgainAnswer
-    ensures { result ≡ again_by used after }
-{
-    let AfterAnswer::After(letters) = after else {
-        return AgainAnswer::NotAgain;
-    };
-    AgainAnswer::Again(AgainRead { used, letters })
-}
-
-fn again_in(name: &[u8], run: &[u8]) -> AgainAnswer
+#[tactic(auto, unfolding(crate::specs::Head::again_in, crate::specs::Head::again_by, text::specs::Pick::pick))]
+fn again_in(name: &[u8], run: &[u8]) -> Option<AgainRead>
     ensures { result ≡ again_in name.now run.now }
 {
-    if run.len() == 0 {
-        return again_by(0, after_in(run));
+    if run.is_empty() {
+        let letters = after_in(run)?;
+        return Some(AgainRead { used: 0, letters });
     }
-    if !name_words::begins(name, run) {
-        return AgainAnswer::NotAgain;
+    if !text::begins(name, run) {
+        return None;
     }
-    let n = name.len();
-    again_by(run.len(), after_in(&run[n..]))
+    let letters = after_in(&run[name.len()..])?;
+    Some(AgainRead {
+        used: run.len(),
+        letters,
+    })
 }
 
 // Nothing, or the name again and its conditions.
-pub fn again_at(s: &[u8], name: &[u8]) -> AgainAnswer
+#[tactic(auto, unfolding(crate::specs::Head::again_at))]
+pub fn again_at(s: &[u8], name: &[u8]) -> Option<AgainRead>
     ensures { result ≡ again_at name.now s.now }
 {
-    let n = upper_count(s);
-    again_in(name, &s[..n])
+    again_in(name, &s[..upper_count(s)])
 }

@@ -1,22 +1,5 @@
-use Rattle.text.proofs.Told.{answers}
-use Rattle.read_name.specs.Name.{ends_lawfully}
-use Rattle.read_name.proofs.Ends.{ends_room, before_cut}
+use Rattle.read_name.proofs.Ends.{lawful_is}
 use Rattle.read_name.proofs.ends_lawfully.Goals as goal
 
-pub returns-then-plain_end : goal.returns-then-plain_end
-unfolding ends_lawfully
-returns-then-plain_end c = search answers
-
-pub overflow_sub-n : goal.overflow_sub-n
-overflow_sub-n c = search ends_room
-
-pub slice_bounds-plain_end-end : goal.slice_bounds-plain_end-end
-slice_bounds-plain_end-end c = search before_cut
-
-pub returns-then-ends_in : goal.returns-then-ends_in
-unfolding ends_lawfully
-returns-then-ends_in c = search answers
-
-pub returns : goal.returns
-unfolding ends_lawfully
-returns c = search answers
+pub returns-in-Some : goal.returns-in-Some
+returns-in-Some c = let h = c.in-Some.ensures.cases in lawful_is _ _ _ h.0 h.1 h.2 _ _ _ c.plain_end.ensures c.if-plain_end.false c.plain_end-in-Some.ensures

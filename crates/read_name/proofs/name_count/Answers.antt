@@ -13,4 +13,4 @@ pub loop-i-preserved : goal.loop-i-preserved
 loop-i-preserved c = (search rules, search cut_later)
 
 pub returns : goal.returns
-returns c = (search cut_end, search rules)
+returns c = (cut_end _ _ _ c.loop-i.invariant.1 c.loop-i.invariant.0 c.loop-i-test.false, search rules)

@@ -1,18 +1,5 @@
-use Rattle.text.proofs.Told.{answers}
-use Rattle.read_name.specs.Name.{with_end}
-use Rattle.read_name.proofs.Ends.{ends_room, before_cut}
+use Rattle.read_name.proofs.Ends.{with_is}
 use Rattle.read_name.proofs.with_end.Goals as goal
 
-pub overflow_sub-n : goal.overflow_sub-n
-overflow_sub-n c = search ends_room
-
-pub slice_bounds-suffix_text-end : goal.slice_bounds-suffix_text-end
-slice_bounds-suffix_text-end c = search before_cut
-
-pub returns-then-ends_in : goal.returns-then-ends_in
-unfolding with_end
-returns-then-ends_in c = search answers
-
-pub returns : goal.returns
-unfolding with_end
-returns c = search answers
+pub returns-in-Some : goal.returns-in-Some
+returns-in-Some c = let h = c.in-Some.ensures.cases in with_is _ _ _ h.0 h.1 h.2 _ c.suffix_text.ensures
