@@ -8,6 +8,7 @@ use lib.ListN.{length, take, length-append}
 use lib.Seq.{take-append-add, take-append-le, drop_at}
 use lib.Dec.{eqb, ltb}
 use borrow.Author.Tests.{le-leb, le-ltb, ltb-true, ltb-false, eqb-true, not-true}
+use Rattle.std.specs.Prelude.{Some}
 use Rattle.text.specs.Bytes.{bytes}
 use Rattle.text.specs.Pick.{pick, all}
 use Rattle.text.specs.Decimal.{decimal, places}
@@ -80,7 +81,7 @@ module _ (first figures last s : List ℕ) where
       rw (le-ltb (length (first ++ (figures ++ (last ++ s)))) (29 + k) (rw length-append (omega arith)), drop_at first (figures ++ (last ++ s)) 29 e, cut_behind k figures (last ++ s) h, d)
       (none_more last s (k - length figures) a o (omega arith))
 
-by_back : (low high : ℕ) (text : ℕ → List ℕ) (n : ℕ) (s : List ℕ) → low ≤ n → n ≤ high → length_by low high text n (text n ++ s) ≡ length (text n)
+by_back : (low high : ℕ) (text : ℕ → List ℕ) (n : ℕ) (s : List ℕ) → low ≤ n → n ≤ high → length_by low high text n (text n ++ s) ≡ Some (length (text n))
 unfolding length_by between length_at pick
 by_back low high text n s h k = rw (le-leb low n h, le-leb n high k, starts_append (text n) s)
 
@@ -114,7 +115,7 @@ level_whole : (n : ℕ) (s : List ℕ) → level_text n ++ s ≡ bytes "<<<VOLUM
 unfolding level_text
 level_whole n s = simp append_assoc
 
-level_at_lem : (n : ℕ) (s : List ℕ) → 5000 ≤ n → n ≤ 100000 → level_at (level_text n ++ s) ≡ length (level_text n)
+level_at_lem : (n : ℕ) (s : List ℕ) → 5000 ≤ n → n ≤ 100000 → level_at (level_text n ++ s) ≡ Some (length (level_text n))
 unfolding level_at all is_digit
 level_at_lem n s h k =
     let l = volume_length n k in
@@ -125,7 +126,7 @@ level_first : (u : List ℕ) → announced_length (bytes "<<<VOLUME.DELETE.LEVEL
 unfolding announced_length announced_in starts pick
 level_first u = refl
 
-level_back : (n : ℕ) (s : List ℕ) → 5000 ≤ n → n ≤ 100000 → announced_length (level_text n ++ s) ≡ length (level_text n)
+level_back : (n : ℕ) (s : List ℕ) → 5000 ≤ n → n ≤ 100000 → announced_length (level_text n ++ s) ≡ Some (length (level_text n))
 level_back n s h k =
     ap announced_length (level_whole n s) ∙ (level_first (full_volume n ++ (bytes "SHRS>>" ++ s)) ∙ (ap level_at (sym (level_whole n s)) ∙ level_at_lem n s h k))
 
@@ -162,7 +163,7 @@ minimum_whole : (n : ℕ) (s : List ℕ) → minimum_text n ++ s ≡ bytes "<<<M
 unfolding minimum_text
 minimum_whole n s = simp append_assoc
 
-minimum_at_lem : (n : ℕ) (s : List ℕ) → 1 ≤ n → n ≤ 100 → minimum_at (minimum_text n ++ s) ≡ length (minimum_text n)
+minimum_at_lem : (n : ℕ) (s : List ℕ) → 1 ≤ n → n ≤ 100 → minimum_at (minimum_text n ++ s) ≡ Some (length (minimum_text n))
 unfolding minimum_at all is_digit
 minimum_at_lem n s h k =
     let l = dollars_length n k in
@@ -174,20 +175,20 @@ minimum_first : (u : List ℕ) → announced_length (bytes "<<<MIN.PRICE.CHGS.OM
 unfolding announced_length announced_in starts pick
 minimum_first u = refl
 
-minimum_back : (n : ℕ) (s : List ℕ) → 1 ≤ n → n ≤ 100 → announced_length (minimum_text n ++ s) ≡ length (minimum_text n)
+minimum_back : (n : ℕ) (s : List ℕ) → 1 ≤ n → n ≤ 100 → announced_length (minimum_text n ++ s) ≡ Some (length (minimum_text n))
 minimum_back n s h k =
     ap announced_length (minimum_whole n s) ∙ (minimum_first (minimum_dollars n ++ (bytes ">>" ++ s)) ∙ (ap minimum_at (sym (minimum_whole n s)) ∙ minimum_at_lem n s h k))
 
 -- ---- EVERY ANNOUNCEMENT IS FOUND
 
-mode_back : (m : Mode) (n : ℕ) (s : List ℕ) → 1 ≤ n → n ≤ 100 → announced_length (mode_text m n ++ s) ≡ length (mode_text m n)
+mode_back : (m : Mode) (n : ℕ) (s : List ℕ) → 1 ≤ n → n ≤ 100 → announced_length (mode_text m n ++ s) ≡ Some (length (mode_text m n))
 unfolding announced_length announced_in mode_text starts pick
 mode_back Normal n s h k = refl
 mode_back Dvd n s h k = refl
 mode_back Rpo n s h k = refl
 mode_back Mpv n s h k = minimum_back n s h k
 
-pub announced_back : (t s : List ℕ) → Announced t → announced_length (t ++ s) ≡ length t
+pub announced_back : (t s : List ℕ) → Announced t → announced_length (t ++ s) ≡ Some (length t)
 announced_back t s (mode m n h k e) = rw e (mode_back m n s h k)
 announced_back t s (level n h k e) = rw e (level_back n s h k)
 

@@ -8,25 +8,12 @@ use mathlib.Core.List.{List}
 use lib.ListN.{length, get_or, take, drop, drop_of_length-le}
 use lib.Seq.{drop-cons, take_at}
 use borrow.Author.Tests.{le-leb, lt-leb, lt-ltb, le-ltb}
+use Rattle.std.specs.Prelude.{Option, None}
 use Rattle.text.specs.Pick.{pick}
 use Rattle.text.specs.Put.{put, Written}
 use Rattle.text.specs.Reading.{is_digit}
 use Rattle.rules.specs.Columns.{between}
 use Rattle.read_announcement.specs.Announced.{with_digit, digits_in, number_at, length_at, length_by}
-
--- ---- a byte more
-
-pub byte_low : (n c : ℕ) → c < 48 → n ≡ with_digit n c
-unfolding with_digit is_digit pick
-byte_low n c h = rw (lt-leb 48 c h)
-
-pub byte_high : (n c : ℕ) → 48 ≤ c → 57 < c → n ≡ with_digit n c
-unfolding with_digit is_digit pick
-byte_high n c h k = rw (le-leb 48 c h, lt-leb c 57 k)
-
-pub byte_digit : (n c w : ℕ) → 48 ≤ c → c ≤ 57 → w ≡ c → 10 * n + (w - 48) ≡ with_digit n c
-unfolding with_digit is_digit pick
-byte_digit n c w h k e = rw (le-leb 48 c h, le-leb c 57 k, e)
 
 -- ---- the digits: n is worth those before i, and x is what all are worth
 
@@ -68,15 +55,15 @@ module _ (t b a : List ℕ) (n : ℕ) (w : Written t b a n) where
 
 -- n was read, and q is worth it
 module _ (low high : ℕ) (text : ℕ → List ℕ) (q n : ℕ) (s : List ℕ) (e : n ≡ q) where
-  pub by_low : n < low → 0 ≡ length_by low high text q s
+  pub by_low : n < low → None ≡ length_by low high text q s
   unfolding length_by between pick
   by_low h = rw (← e, lt-leb low n h)
 
-  pub by_high : low ≤ n → high < n → 0 ≡ length_by low high text q s
+  pub by_high : low ≤ n → high < n → None ≡ length_by low high text q s
   unfolding length_by between pick
   by_high h k = rw (← e, le-leb low n h, lt-leb n high k)
 
-  pub by_text : (b a : List ℕ) (m r : ℕ) → low ≤ n → n ≤ high → Written (text n) b a m → r ≡ length_at (take m a) s → r ≡ length_by low high text q s
+  pub by_text : (b a : List ℕ) (m : ℕ) (r : Option ℕ) → low ≤ n → n ≤ high → Written (text n) b a m → r ≡ length_at (take m a) s → r ≡ length_by low high text q s
   unfolding length_by between pick
   by_text b a m r h k w d = rw (← e, le-leb low n h, le-leb n high k, ← cut_out (text n) b a m w) d
 

@@ -1,5 +1,5 @@
 -- Which texts are announcements, and the one at a place of a tape (document 01, "Announcements", "Reader"). Assumes nothing.
-use Rattle.std.specs.Prelude.{ℕ, ◌+◌, ◌*◌, ◌-◌, ◌/◌, ◌≤◌, ◌≡◌, List, [], ◌∷◌, ltb, length, take, drop}
+use Rattle.std.specs.Prelude.{ℕ, ◌+◌, ◌*◌, ◌-◌, ◌/◌, ◌≤◌, ◌≡◌, List, [], ◌∷◌, ltb, length, take, drop, Option, Some, None}
 use Rattle.text.specs.Bytes.{bytes}
 use Rattle.text.specs.Pick.{pick}
 use Rattle.text.specs.Reading.{is_digit, starts}
@@ -27,31 +27,31 @@ digits_in a (c ∷ s) = digits_in (with_digit a c) s
 unfoldable pub number_at : ℕ → List ℕ → ℕ
 number_at k s = pick (ltb (length s) (29 + k)) 0 (digits_in 0 (take k (drop 29 s)))
 
--- ---- the length of the announcement at the front, 0 where none stands
+-- ---- the length of the announcement at the front, none where none stands
 
 -- of the text t
-unfoldable pub length_at : List ℕ → List ℕ → ℕ
-length_at t s = pick (starts t s) (length t) 0
+unfoldable pub length_at : List ℕ → List ℕ → Option ℕ
+length_at t s = pick (starts t s) (Some (length t)) None
 
 -- of the text with the number n, from low to high
-unfoldable pub length_by : (low high : ℕ) (text : ℕ → List ℕ) (n : ℕ) → List ℕ → ℕ
-length_by low high text n s = pick (between low high n) (length_at (text n) s) 0
+unfoldable pub length_by : (low high : ℕ) (text : ℕ → List ℕ) (n : ℕ) → List ℕ → Option ℕ
+length_by low high text n s = pick (between low high n) (length_at (text n) s) None
 
 -- of an MPV level: dollars of at most four bytes
-unfoldable pub minimum_at : List ℕ → ℕ
+unfoldable pub minimum_at : List ℕ → Option ℕ
 minimum_at s = length_by 1 100 minimum_text (number_at 4 s / 5) s
 
 -- of a volume delete level: a volume of at most seven
-unfoldable pub level_at : List ℕ → ℕ
+unfoldable pub level_at : List ℕ → Option ℕ
 level_at s = length_by 5000 100000 level_text (number_at 7 s) s
 
-unfoldable pub announced_in : List ℕ → ℕ
+unfoldable pub announced_in : List ℕ → Option ℕ
 announced_in s =
-    pick (starts (bytes "<<<TICKER.MODE.NORMAL>>") s) 23
-    (pick (starts (bytes "<<<NOW.IN.DIGITS.&.VOLUME.DELETED.MODE>>") s) 40
-    (pick (starts (bytes "<<<NOW.IN.REPEAT.PRICES.OMITTED.MODE>>") s) 38
+    pick (starts (bytes "<<<TICKER.MODE.NORMAL>>") s) (Some 23)
+    (pick (starts (bytes "<<<NOW.IN.DIGITS.&.VOLUME.DELETED.MODE>>") s) (Some 40)
+    (pick (starts (bytes "<<<NOW.IN.REPEAT.PRICES.OMITTED.MODE>>") s) (Some 38)
     (pick (starts (bytes "<<<MIN.PRICE.CHGS.OMITTED.NOW") s) (minimum_at s) (level_at s))))
 
 -- most places have no begin announce
-unfoldable pub announced_length : List ℕ → ℕ
-announced_length s = pick (starts (bytes "<<<") s) (announced_in s) 0
+unfoldable pub announced_length : List ℕ → Option ℕ
+announced_length s = pick (starts (bytes "<<<") s) (announced_in s) None

@@ -5,20 +5,20 @@
 ghost use Rattle.std.specs.Prelude.{◌≡◌, ◌+◌, ◌*◌, ◌≤◌, ◌<◌, ◌^◌, length};
 ghost use Rattle.read_announcement.specs.Announced.{with_digit, digits_in, number_at, length_at, minimum_at, level_at, announced_in, announced_length};
 
+use print_announcement::{DVD, MINIMUM, NORMAL, RPO};
+
 // ---- the number that an announcement would tell
 
 // One byte more onto a number, where it is a digit.
+#[tactic(auto, unfolding(crate::specs::Announced::with_digit, text::specs::Reading::is_digit, text::specs::Pick::pick))]
 fn with_digit(n: u64, c: u8) -> u64
     requires { n < 10 ^ 7 }
     ensures { (result ≡ with_digit n c) × (result ≤ 10 * n + 9) }
 {
-    if c < 48 {
-        return n;
+    match c {
+        b'0'..=b'9' => 10 * n + (u64::from(c) - 48),
+        _ => n,
     }
-    if 57 < c {
-        return n;
-    }
-    10 * n + (text::wide(c) - 48)
 }
 
 // The digits of at most seven bytes.
@@ -27,10 +27,8 @@ fn digits_in(s: &[u8]) -> u64
     ensures { result ≡ digits_in 0 s.now }
 {
     let mut n: u64 = 0;
-    let mut i = 0;
-    while i < s.len() {
-        n = with_digit(n, s[i]);
-        i += 1;
+    for &c in s {
+        n = with_digit(n, c);
     }
     n
 }
@@ -47,41 +45,37 @@ fn number_at(s: &[u8], k: usize) -> u64
     digits_in(&s[29..end])
 }
 
-// ---- a text with a number, 0 where it does not stand there
+// ---- a text with a number: its length, where it stands
 
-fn text_at(t: &[u8], s: &[u8]) -> usize
+#[tactic(auto, unfolding(crate::specs::Announced::length_at, text::specs::Pick::pick))]
+fn text_at(t: &[u8], s: &[u8]) -> Option<usize>
     ensures { result ≡ length_at t.now s.now }
 {
-    if name_words::begins(t, s) {
-        return t.len();
+    if text::begins(t, s) {
+        Some(t.len())
+    } else {
+        None
     }
-    0
 }
 
-fn minimum_at(s: &[u8]) -> usize
+fn minimum_at(s: &[u8]) -> Option<usize>
     ensures { result ≡ minimum_at s.now }
 {
     let minimum = number_at(s, 4) / 5;
-    if minimum < 1 {
-        return 0;
-    }
-    if 100 < minimum {
-        return 0;
+    if minimum < 1 || 100 < minimum {
+        return None;
     }
     let mut buffer = [0u8; 42];
     let n = print_announcement::write_minimum(&mut buffer, minimum);
     text_at(&buffer[..n], s)
 }
 
-fn level_at(s: &[u8]) -> usize
+fn level_at(s: &[u8]) -> Option<usize>
     ensures { result ≡ level_at s.now }
 {
     let level = number_at(s, 7);
-    if level < 5000 {
-        return 0;
-    }
-    if 100000 < level {
-        return 0;
+    if level < 5000 || 100000 < level {
+        return None;
     }
     let mut buffer = [0u8; 42];
     let n = print_announcement::write_level(&mut buffer, level);
@@ -90,34 +84,31 @@ fn level_at(s: &[u8]) -> usize
 
 // ---- the announcement
 
-fn announced_in(s: &[u8]) -> usize
+#[tactic(auto, unfolding(crate::specs::Announced::announced_in, text::specs::Pick::pick))]
+fn announced_in(s: &[u8]) -> Option<usize>
     ensures { result ≡ announced_in s.now }
 {
-    let normal = print_announcement::NORMAL;
-    let dvd = print_announcement::DVD;
-    let rpo = print_announcement::RPO;
-    let minimum = print_announcement::MINIMUM;
-    if name_words::begins(&normal, s) {
-        return 23;
+    if text::begins(&NORMAL, s) {
+        Some(NORMAL.len())
+    } else if text::begins(&DVD, s) {
+        Some(DVD.len())
+    } else if text::begins(&RPO, s) {
+        Some(RPO.len())
+    } else if text::begins(&MINIMUM, s) {
+        minimum_at(s)
+    } else {
+        level_at(s)
     }
-    if name_words::begins(&dvd, s) {
-        return 40;
-    }
-    if name_words::begins(&rpo, s) {
-        return 38;
-    }
-    if name_words::begins(&minimum, s) {
-        return minimum_at(s);
-    }
-    level_at(s)
 }
 
-// The length of the announcement at the front, 0 where none stands.
-pub fn announcement_at(s: &[u8]) -> usize
+// The length of the announcement at the front.
+#[tactic(auto, unfolding(crate::specs::Announced::announced_length, text::specs::Pick::pick))]
+pub fn announcement_at(s: &[u8]) -> Option<usize>
     ensures { result ≡ announced_length s.now }
 {
-    if name_words::begins(b"<<<", s) {
-        return announced_in(s);
+    if text::begins(b"<<<", s) {
+        announced_in(s)
+    } else {
+        None
     }
-    0
 }
