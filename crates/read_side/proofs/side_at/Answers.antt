@@ -1,8 +1,5 @@
-use Rattle.read_side.proofs.Sides.{side_said, side_unsaid}
+use Rattle.read_side.proofs.Sides.{said_room}
 use Rattle.read_side.proofs.side_at.Goals as goal
 
-pub returns-in-Sided : goal.returns-in-Sided
-returns-in-Sided c = search side_said
-
-pub returns-in-Refused : goal.returns-in-Refused
-returns-in-Refused c = search side_unsaid
+pub side_with-requires : goal.side_with-requires
+side_with-requires c = search said_room

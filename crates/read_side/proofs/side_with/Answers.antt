@@ -1,13 +1,8 @@
-use Rattle.read_conditions.proofs.Steps.{price_part}
-use Rattle.read_side.proofs.Sides.{unexplained, explained_side}
-use borrow.Author.Rules.{rules}
+use Rattle.read_side.proofs.Sides.{cut_room, cut_fits}
 use Rattle.read_side.proofs.side_with.Goals as goal
 
-pub returns-then-not-some_network : goal.returns-then-not-some_network
-returns-then-not-some_network c = search unexplained
+pub overflow_add-bare : goal.overflow_add-bare
+overflow_add-bare c = let h = c.in_ok-p.ensures.ok_part in record { fits = search cut_fits }
 
-pub sided_by-requires : goal.sided_by-requires
-sided_by-requires c = (search rules, search price_part)
-
-pub returns : goal.returns
-returns c = search explained_side
+pub tail_at-requires : goal.tail_at-requires
+tail_at-requires c = let h = c.in_ok-p.ensures.ok_part in search cut_room
