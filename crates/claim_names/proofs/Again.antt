@@ -7,6 +7,7 @@ use mathlib.Core.List.{List, [], ◌∷◌, ◌++◌}
 use lib.Dec.{leb}
 use lib.ListN.{length, take, drop, length-append, length-take}
 use lib.Seq.{take-append_seam, drop-append_seam}
+use Rattle.std.specs.Prelude.{Option, Some, None}
 use Rattle.text.specs.Pick.{pick, opt, all, same}
 use Rattle.text.specs.Reading.{heads, starts}
 use Rattle.text.proofs.Reading.{starts_append}
@@ -20,11 +21,7 @@ use Rattle.name_back.specs.Cut.{one_sold}
 use Rattle.name_back.proofs.Parts.{front_is}
 use Rattle.name_back.proofs.Back.{conditions_upper}
 use Rattle.read_name.specs.Head.{letters_after, sold_in, after_in, upper_count, again_by, again_in, again_at}
-use Rattle.read_name.specs.declared.AfterAnswer.{AfterAnswer}
-use Rattle.read_name.specs.declared.AfterAnswer.TheVariants.{After, NoAfter}
 use Rattle.read_name.specs.declared.AgainRead.{AgainRead}
-use Rattle.read_name.specs.declared.AgainAnswer.{AgainAnswer}
-use Rattle.read_name.specs.declared.AgainAnswer.TheVariants.{Again, NotAgain}
 use Rattle.read_name.proofs.Count.{count_within}
 use Rattle.claim_names.proofs.Counts.{count_all}
 use Rattle.claim_names.proofs.Head.{after_back, after_short, after_told}
@@ -44,12 +41,12 @@ module _ (x : Letters) (z : x.n ≡ false) (o : one_sold x ≡ true) (s : List �
   run_is t u k = rw (count_all is_upper 35 (t ++ after_name x) s (all_append is_upper t (after_name x) u (conditions_upper x)) (omega (length-append t (after_name x), after_short x z o, k, arith)) l) (take-append_seam (t ++ after_name x) s)
 
   -- with the name again
-  pub again_found : (t : List ℕ) → all is_upper t ≡ true → length t ≤ 22 → 1 ≤ length t → again_at t ((t ++ after_name x) ++ s) ≡ Again (again_read t x)
+  pub again_found : (t : List ℕ) → all is_upper t ≡ true → length t ≤ 22 → 1 ≤ length t → again_at t ((t ++ after_name x) ++ s) ≡ Some (again_read t x)
   unfolding again_at again_read again_by
   again_found t u k i = rw (run_is t u k, some_front t (after_name x) i, drop-append_seam t (after_name x), after_back x z o)
 
   -- without it, where there is no condition after it either
-  pub again_none : (t : List ℕ) → after_name x ≡ [] → again_at t s ≡ Again (record { used = 0; letters = letters_after false false false false })
+  pub again_none : (t : List ℕ) → after_name x ≡ [] → again_at t s ≡ Some (record { used = 0; letters = letters_after false false false false })
   unfolding again_at again_in again_by after_in sold_in starts same pick all
   again_none t e = rw (count_all is_upper 35 [] s refl (omega arith) l)
 
@@ -64,15 +61,15 @@ pub record AgainTold (name s : List ℕ) (h : AgainRead) : Type 0 where
   pub sold : one_sold h.letters ≡ true
   pub only : h.letters ≡ letters_after h.letters.m h.letters.o h.letters.s h.letters.l
 
-again_of : AgainAnswer → AgainRead
-again_of (Again h) = h
-again_of NotAgain = again_read [] (letters_after false false false false)
+again_of : Option AgainRead → AgainRead
+again_of (Some h) = h
+again_of None = again_read [] (letters_after false false false false)
 
-is_again : AgainAnswer → Bool
-is_again (Again h) = true
-is_again NotAgain = false
+is_again : Option AgainRead → Bool
+is_again (Some h) = true
+is_again None = false
 
-not_again : (h : AgainRead) → NotAgain ≡ Again h → ⊥
+not_again : (h : AgainRead) → None ≡ Some h → ⊥
 unfolding is_again
 not_again h e = false_true (ap is_again e)
 
@@ -80,16 +77,16 @@ module _ (name s : List ℕ) where
   run_length : length (take (upper_count s) s) ≡ upper_count s
   run_length = omega (length-take (upper_count s) s, count_within is_upper 35 s, arith)
 
-  told_nothing : (h : AgainRead) → again_by 0 (after_in []) ≡ Again h → AgainTold name s h
+  told_nothing : (h : AgainRead) → again_by 0 (after_in []) ≡ Some h → AgainTold name s h
   unfolding again_by after_in sold_in starts same pick again_of letters_after after_name opt one_sold
   told_nothing h k =
       subst (AgainTold name s) (ap again_of k)
       (record { within = omega arith; repeated = false; repeats = refl; text = refl; none = λ x. refl; sold = refl; only = refl })
 
-  told_again : (c : ℕ) (run : List ℕ) → take (upper_count s) s ≡ c ∷ run → starts name (c ∷ run) ≡ true → (y : AfterAnswer) → after_in (drop (length name) (c ∷ run)) ≡ y → (h : AgainRead) → again_by (length (c ∷ run)) y ≡ Again h → AgainTold name s h
+  told_again : (c : ℕ) (run : List ℕ) → take (upper_count s) s ≡ c ∷ run → starts name (c ∷ run) ≡ true → (y : Option Letters) → after_in (drop (length name) (c ∷ run)) ≡ y → (h : AgainRead) → again_by (length (c ∷ run)) y ≡ Some h → AgainTold name s h
   unfolding again_by again_of opt
-  told_again c run e b NoAfter f h k = absurd (not_again h k)
-  told_again c run e b (After x) f h k =
+  told_again c run e b None f h k = absurd (not_again h k)
+  told_again c run e b (Some x) f h k =
       let t = after_told (drop (length name) (c ∷ run)) x f in
       let n : length (c ∷ run) ≡ upper_count s = ap length (sym e) ∙ run_length in
       subst (AgainTold name s) (ap again_of k)
@@ -103,16 +100,16 @@ module _ (name s : List ℕ) where
         only = t.only;
       })
 
-  told_pick : (c : ℕ) (run : List ℕ) → take (upper_count s) s ≡ c ∷ run → (h : AgainRead) (b : Bool) → starts name (c ∷ run) ≡ b → pick b (again_by (length (c ∷ run)) (after_in (drop (length name) (c ∷ run)))) NotAgain ≡ Again h → AgainTold name s h
+  told_pick : (c : ℕ) (run : List ℕ) → take (upper_count s) s ≡ c ∷ run → (h : AgainRead) (b : Bool) → starts name (c ∷ run) ≡ b → pick b (again_by (length (c ∷ run)) (after_in (drop (length name) (c ∷ run)))) None ≡ Some h → AgainTold name s h
   unfolding pick
   told_pick c run e h true b k = told_again c run e b (after_in (drop (length name) (c ∷ run))) refl h k
   told_pick c run e h false b k = absurd (not_again h k)
 
-  told_run : (run : List ℕ) → take (upper_count s) s ≡ run → (h : AgainRead) → again_in name run ≡ Again h → AgainTold name s h
+  told_run : (run : List ℕ) → take (upper_count s) s ≡ run → (h : AgainRead) → again_in name run ≡ Some h → AgainTold name s h
   unfolding again_in
   told_run [] e h k = told_nothing h k
   told_run (c ∷ run) e h k = told_pick c run e h (starts name (c ∷ run)) refl k
 
-  pub again_told : (h : AgainRead) → again_at name s ≡ Again h → AgainTold name s h
+  pub again_told : (h : AgainRead) → again_at name s ≡ Some h → AgainTold name s h
   unfolding again_at
   again_told h k = told_run (take (upper_count s) s) refl h k

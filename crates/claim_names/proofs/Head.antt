@@ -9,6 +9,7 @@ use lib.Dec.{eqb}
 use lib.ListN.{length, take, drop, length-append, length-take, take-append-drop}
 use lib.Seq.{take-take, take-append_seam, drop-append_seam}
 use borrow.Author.Tests.{eqb-true}
+use Rattle.std.specs.Prelude.{Option, Some, None}
 use Rattle.text.specs.Bytes.{bytes}
 use Rattle.text.specs.Pick.{pick, opt, same, among}
 use Rattle.text.specs.Reading.{Read, found, before, heads, starts}
@@ -26,11 +27,7 @@ use Rattle.name_back.proofs.Parts.{front_is}
 use Rattle.name_back.proofs.Back.{name_upper, name_cut, conditions_upper}
 use Rattle.read_name.specs.Name.{name_on}
 use Rattle.read_name.specs.Head.{letters_after, sold_in, after_in, upper_count, name_count, named_by, in_run, head_at}
-use Rattle.read_name.specs.declared.AfterAnswer.{AfterAnswer}
-use Rattle.read_name.specs.declared.AfterAnswer.TheVariants.{After, NoAfter}
 use Rattle.read_name.specs.declared.NameRead.{NameRead}
-use Rattle.read_name.specs.declared.NameAnswer.{NameAnswer}
-use Rattle.read_name.specs.declared.NameAnswer.TheVariants.{Named, NoName}
 use Rattle.read_name.proofs.Count.{name_within, count_within}
 use Rattle.claim_names.proofs.Counts.{count_all}
 use Rattle.claim_names.proofs.Lawful.{name_lawful}
@@ -38,7 +35,7 @@ use Rattle.name_text.proofs.Text.{name_most}
 
 -- ---- the conditions after a name
 
-after_ok : (m o s l : Bool) → (not (o && s) && (not (o && l) && not (s && l))) ≡ true → after_in (opt m (bytes ".ND") ++ opt o (bytes ".OPD") ++ opt s (bytes ".SLD") ++ opt l (bytes ".SLD.LAST")) ≡ After (letters_after m o s l)
+after_ok : (m o s l : Bool) → (not (o && s) && (not (o && l) && not (s && l))) ≡ true → after_in (opt m (bytes ".ND") ++ opt o (bytes ".OPD") ++ opt s (bytes ".SLD") ++ opt l (bytes ".SLD.LAST")) ≡ Some (letters_after m o s l)
 unfolding after_in sold_in opt starts same pick
 after_ok m true true l h = absurd (false_true h)
 after_ok m true false true h = absurd (false_true h)
@@ -53,7 +50,7 @@ after_ok true false false false h = refl
 after_ok false false false false h = refl
 
 -- letters as they are shown: no N
-pub after_back : (x : Letters) → x.n ≡ false → one_sold x ≡ true → after_in (after_name x) ≡ After (letters_after x.m x.o x.s x.l)
+pub after_back : (x : Letters) → x.n ≡ false → one_sold x ≡ true → after_in (after_name x) ≡ Some (letters_after x.m x.o x.s x.l)
 unfolding after_name one_sold
 after_back x n h = rw n (after_ok x.m x.o x.s x.l h)
 
@@ -81,15 +78,15 @@ pub record AfterTold (c : List ℕ) (x : Letters) : Type 0 where
   pub sold : one_sold x ≡ true
   pub only : x ≡ letters_after x.m x.o x.s x.l
 
-letters_in : AfterAnswer → Letters
-letters_in (After x) = x
-letters_in NoAfter = letters_after false false false false
+letters_in : Option Letters → Letters
+letters_in (Some x) = x
+letters_in None = letters_after false false false false
 
-is_after_answer : AfterAnswer → Bool
-is_after_answer (After x) = true
-is_after_answer NoAfter = false
+is_after_answer : Option Letters → Bool
+is_after_answer (Some x) = true
+is_after_answer None = false
 
-one_told : (m o s l : Bool) (c t : List ℕ) (x : Letters) → (not (o && s) && (not (o && l) && not (s && l))) ≡ true → opt m (bytes ".ND") ++ opt o (bytes ".OPD") ++ opt s (bytes ".SLD") ++ opt l (bytes ".SLD.LAST") ≡ opt m (bytes ".ND") ++ t → c ≡ opt m (bytes ".ND") ++ t → After (letters_after m o s l) ≡ After x → AfterTold c x
+one_told : (m o s l : Bool) (c t : List ℕ) (x : Letters) → (not (o && s) && (not (o && l) && not (s && l))) ≡ true → opt m (bytes ".ND") ++ opt o (bytes ".OPD") ++ opt s (bytes ".SLD") ++ opt l (bytes ".SLD.LAST") ≡ opt m (bytes ".ND") ++ t → c ≡ opt m (bytes ".ND") ++ t → Some (letters_after m o s l) ≡ Some x → AfterTold c x
 unfolding after_name letters_after one_sold letters_in
 one_told m o s l c t x h e f k =
     let q : letters_after m o s l ≡ x = ap letters_in k in
@@ -104,13 +101,13 @@ tidy_mid m z = append-nil (opt m (bytes ".ND") ++ [] ++ z) ∙ ap (λ y. y ++ z)
 tidy_end : (m : Bool) (z : List ℕ) → opt m (bytes ".ND") ++ z ++ [] ++ [] ≡ opt m (bytes ".ND") ++ z
 tidy_end m z = append-nil (opt m (bytes ".ND") ++ z ++ []) ∙ append-nil (opt m (bytes ".ND") ++ z)
 
-no_letters_lem : (x : Letters) → NoAfter ≡ After x → ⊥
+no_letters_lem : (x : Letters) → None ≡ Some x → ⊥
 unfolding is_after_answer
 no_letters_lem x h = false_true (ap is_after_answer h)
 
 sold_cases : (m : Bool) (c t : List ℕ) (x : Letters) → c ≡ opt m (bytes ".ND") ++ t
     → (p : Bool) → same t [] ≡ p → (q : Bool) → same t (bytes ".OPD") ≡ q → (r : Bool) → same t (bytes ".SLD") ≡ r → (u : Bool) → same t (bytes ".SLD.LAST") ≡ u
-    → pick p (After (letters_after m false false false)) (pick q (After (letters_after m true false false)) (pick r (After (letters_after m false true false)) (pick u (After (letters_after m false false true)) NoAfter))) ≡ After x → AfterTold c x
+    → pick p (Some (letters_after m false false false)) (pick q (Some (letters_after m true false false)) (pick r (Some (letters_after m false true false)) (pick u (Some (letters_after m false false true)) None))) ≡ Some x → AfterTold c x
 unfolding pick opt
 sold_cases m c t x f true pe q qe r re u ue k = one_told m false false false c t x refl (tidy m [] ∙ ap (λ z. opt m (bytes ".ND") ++ z) (sym (same_true t [] pe))) f k
 sold_cases m c t x f false pe true qe r re u ue k = one_told m true false false c t x refl (tidy_end m (bytes ".OPD") ∙ ap (λ z. opt m (bytes ".ND") ++ z) (sym (same_true t (bytes ".OPD") qe))) f k
@@ -118,16 +115,16 @@ sold_cases m c t x f false pe false qe true re u ue k = one_told m false true fa
 sold_cases m c t x f false pe false qe false re true ue k = one_told m false false true c t x refl (tidy m (bytes ".SLD.LAST") ∙ ap (λ z. opt m (bytes ".ND") ++ z) (sym (same_true t (bytes ".SLD.LAST") ue))) f k
 sold_cases m c t x f false pe false qe false re false ue k = absurd (no_letters_lem x k)
 
-sold_told : (m : Bool) (c t : List ℕ) (x : Letters) → c ≡ opt m (bytes ".ND") ++ t → sold_in m t ≡ After x → AfterTold c x
+sold_told : (m : Bool) (c t : List ℕ) (x : Letters) → c ≡ opt m (bytes ".ND") ++ t → sold_in m t ≡ Some x → AfterTold c x
 unfolding sold_in
 sold_told m c t x f h = sold_cases m c t x f (same t []) refl (same t (bytes ".OPD")) refl (same t (bytes ".SLD")) refl (same t (bytes ".SLD.LAST")) refl h
 
-after_cases : (c : List ℕ) (x : Letters) (b : Bool) → starts (bytes ".ND") c ≡ b → pick b (sold_in true (drop 3 c)) (sold_in false c) ≡ After x → AfterTold c x
+after_cases : (c : List ℕ) (x : Letters) (b : Bool) → starts (bytes ".ND") c ≡ b → pick b (sold_in true (drop 3 c)) (sold_in false c) ≡ Some x → AfterTold c x
 unfolding pick opt
 after_cases c x true e k = sold_told true c (drop 3 c) x (front_is (bytes ".ND") c e) k
 after_cases c x false e k = sold_told false c c x refl k
 
-pub after_told : (c : List ℕ) (x : Letters) → after_in c ≡ After x → AfterTold c x
+pub after_told : (c : List ℕ) (x : Letters) → after_in c ≡ Some x → AfterTold c x
 unfolding after_in
 after_told c x h = after_cases c x (starts (bytes ".ND") c) refl h
 
@@ -163,11 +160,11 @@ module _ (temporary : Bool) (network : ℕ) (name : List ℕ) (n : is_network ne
   count_name : name_count (name_text temporary name ++ after_name x) ≡ length (name_text temporary name)
   count_name = count_cut (name_text temporary name ++ after_name x) ∙ ap (λ r. length r.got) (name_cut network name h temporary x)
 
-  in_run_lem : in_run temporary (name_text temporary name ++ after_name x) ≡ Named (head_read temporary (name_text temporary name) x)
+  in_run_lem : in_run temporary (name_text temporary name ++ after_name x) ≡ Some (head_read temporary (name_text temporary name) x)
   unfolding in_run head_read named_by pick
   in_run_lem = rw (count_name, take-append_seam (name_text temporary name) (after_name x), drop-append_seam (name_text temporary name) (after_name x), after_back x z o, on_one temporary network (name_text temporary name) n (name_lawful temporary network name h))
 
-  pub head_found : (s : List ℕ) → heads is_upper s ≡ false → head_at temporary ((name_text temporary name ++ after_name x) ++ s) ≡ Named (head_read temporary (name_text temporary name) x)
+  pub head_found : (s : List ℕ) → heads is_upper s ≡ false → head_at temporary ((name_text temporary name ++ after_name x) ++ s) ≡ Some (head_read temporary (name_text temporary name) x)
   unfolding head_at
   head_found s l =
       let t = name_text temporary name ++ after_name x in
@@ -186,15 +183,15 @@ pub record HeadTold (temporary : Bool) (s : List ℕ) (h : NameRead) : Type 0 wh
   pub sold : one_sold h.letters ≡ true
   pub only : h.letters ≡ letters_after h.letters.m h.letters.o h.letters.s h.letters.l
 
-name_in : NameAnswer → NameRead
-name_in (Named h) = h
-name_in NoName = head_read false [] (letters_after false false false false)
+name_in : Option NameRead → NameRead
+name_in (Some h) = h
+name_in None = head_read false [] (letters_after false false false false)
 
-is_named : NameAnswer → Bool
-is_named (Named h) = true
-is_named NoName = false
+is_named : Option NameRead → Bool
+is_named (Some h) = true
+is_named None = false
 
-no_name_lem : (h : NameRead) → NoName ≡ Named h → ⊥
+no_name_lem : (h : NameRead) → None ≡ Some h → ⊥
 unfolding is_named
 no_name_lem h e = false_true (ap is_named e)
 
@@ -223,7 +220,7 @@ module _ (temporary : Bool) (s : List ℕ) where
   read_as : Letters → NameRead
   read_as x = record { length = length named; used = length run; letters = x; a = name_on temporary 65 named; b = name_on temporary 66 named }
 
-  told_as : (x : Letters) → after_in after ≡ After x → (name_on temporary 65 named || name_on temporary 66 named) ≡ true → HeadTold temporary s (read_as x)
+  told_as : (x : Letters) → after_in after ≡ Some x → (name_on temporary 65 named || name_on temporary 66 named) ≡ true → HeadTold temporary s (read_as x)
   unfolding read_as run named after
   told_as x e o =
       let t = after_told after x e in
@@ -240,16 +237,16 @@ module _ (temporary : Bool) (s : List ℕ) where
         only = t.only;
       }
 
-  told_pick : (h : NameRead) (x : Letters) (b : Bool) → (name_on temporary 65 named || name_on temporary 66 named) ≡ b → after_in after ≡ After x → pick b (Named (read_as x)) NoName ≡ Named h → HeadTold temporary s h
+  told_pick : (h : NameRead) (x : Letters) (b : Bool) → (name_on temporary 65 named || name_on temporary 66 named) ≡ b → after_in after ≡ Some x → pick b (Some (read_as x)) None ≡ Some h → HeadTold temporary s h
   unfolding pick name_in
   told_pick h x true o e k = subst (HeadTold temporary s) (ap name_in k) (told_as x e o)
   told_pick h x false o e k = absurd (no_name_lem h k)
 
-  told_by : (h : NameRead) (y : AfterAnswer) → after_in after ≡ y → named_by temporary named (length run) y ≡ Named h → HeadTold temporary s h
+  told_by : (h : NameRead) (y : Option Letters) → after_in after ≡ y → named_by temporary named (length run) y ≡ Some h → HeadTold temporary s h
   unfolding named_by read_as
-  told_by h NoAfter e k = absurd (no_name_lem h k)
-  told_by h (After x) e k = told_pick h x (name_on temporary 65 named || name_on temporary 66 named) refl e k
+  told_by h None e k = absurd (no_name_lem h k)
+  told_by h (Some x) e k = told_pick h x (name_on temporary 65 named || name_on temporary 66 named) refl e k
 
-  pub head_told : (h : NameRead) → head_at temporary s ≡ Named h → HeadTold temporary s h
+  pub head_told : (h : NameRead) → head_at temporary s ≡ Some h → HeadTold temporary s h
   unfolding head_at in_run named run after
   head_told h e = told_by h (after_in after) refl e

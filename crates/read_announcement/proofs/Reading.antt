@@ -11,7 +11,6 @@ use borrow.Author.Tests.{le-leb, lt-leb, lt-ltb, le-ltb}
 use Rattle.std.specs.Prelude.{Option, None}
 use Rattle.text.specs.Pick.{pick}
 use Rattle.text.specs.Put.{put, Written}
-use Rattle.text.specs.Reading.{is_digit}
 use Rattle.rules.specs.Columns.{between}
 use Rattle.read_announcement.specs.Announced.{with_digit, digits_in, number_at, length_at, length_by}
 

@@ -39,7 +39,7 @@ fn further(s: &[u8], st: Taken, side: Side, n: usize) -> Taken
 }
 
 // The text p stands at i.
-fn stands(s: &[u8], i: usize, p: &[u8]) -> bool
+pub fn stands(s: &[u8], i: usize, p: &[u8]) -> bool
     requires { i ≤ length s.now }
     ensures is { result ≡ starts p.now (drop i s.now) }
     ensures within { OnTrue result (i + length p.now ≤ length s.now) }

@@ -1,4 +1,3 @@
 pub mod Rooms
-pub mod Prints
 pub mod Bounds
 pub mod Numbers

@@ -1,50 +1,29 @@
 -- What stands behind n bytes, as the code cuts it out, and that it is within the text. Assumes nothing.
 use Prim.Native.Nat.{ℕ, ◌+◌, ◌-◌, ◌^◌, ◌≤◌, ◌<◌}
 use native.Mathlib.Omega.{arith}
-use mathlib.Core.Path.{◌≡◌, sym, ap, ◌∙◌}
+use mathlib.Core.Path.{◌≡◌, refl, sym, ◌∙◌}
 use mathlib.Core.Bool.{Bool, true, false, not}
 use mathlib.Core.List.{List}
 use lib.ListN.{length, take, drop, length-drop}
 use borrow.Author.Tests.{not-false}
+use Rattle.std.specs.Prelude.{Option, Some, None, Result, Ok, Err, IfSome, IfOk}
 use Rattle.text.specs.Bytes.{bytes}
 use Rattle.text.specs.Reading.{starts}
 use Rattle.text.proofs.Parts.{rest_is, starts_within}
 use Rattle.rules.specs.declared.Letters.{Letters}
+use Rattle.rules.specs.declared.Refusal.{Refusal}
 use Rattle.read_name.specs.declared.NameRead.{NameRead}
-use Rattle.read_name.specs.declared.NameAnswer.{NameAnswer}
-use Rattle.read_name.specs.declared.NameAnswer.TheVariants.{Named}
 use Rattle.read_name.specs.declared.AgainRead.{AgainRead}
-use Rattle.read_name.specs.declared.AgainAnswer.{AgainAnswer}
-use Rattle.read_name.specs.declared.AgainAnswer.TheVariants.{Again}
 use Rattle.read_name.specs.Head.{head_at, again_at}
 use Rattle.read_name.proofs.Bounds.{head_used, head_length, head_short, again_used}
-use Rattle.read_side.specs.declared.Beside.{Beside}
 use Rattle.read_side.specs.declared.SideRead.{SideRead}
-use Rattle.read_side.specs.declared.SideAnswer.{SideAnswer}
-use Rattle.read_side.specs.declared.SideAnswer.TheVariants.{Sided}
 use Rattle.read_side.specs.Side.{side_at}
 use Rattle.read_side.proofs.Bounds.{side_within}
-
--- ---- as the code cuts it out
-
-module _ (s : List ℕ) (n : ℕ) where
-  pub stands_cut : (p : List ℕ) (r : Bool) → r ≡ starts p (take (length s - n) (drop n s)) → r ≡ starts p (drop n s)
-  stands_cut p r e = e ∙ ap (starts p) (rest_is s n)
-
-  pub head_cut : (t : Bool) (r : NameAnswer) → r ≡ head_at t (take (length s - n) (drop n s)) → r ≡ head_at t (drop n s)
-  head_cut t r e = e ∙ ap (head_at t) (rest_is s n)
-
-  pub side_cut : (first : Beside) (letters : Letters) (a b : Bool) (r : SideAnswer) → r ≡ side_at first letters a b (take (length s - n) (drop n s)) → r ≡ side_at first letters a b (drop n s)
-  side_cut first letters a b r e = e ∙ ap (side_at first letters a b) (rest_is s n)
-
-  pub again_cut : (k : ℕ) (r : AgainAnswer) → r ≡ again_at (take (7 + k - 7) (drop 7 s)) (take (length s - n) (drop n s)) → r ≡ again_at (take k (drop 7 s)) (drop n s)
-  again_cut k r e =
-      let m : 7 + k - 7 ≡ k = omega arith in
-      e ∙ (ap (λ j. again_at (take j (drop 7 s)) (take (length s - n) (drop n s))) m ∙ ap (again_at (take k (drop 7 s))) (rest_is s n))
+use Rattle.read_volume.specs.declared.Volume.{Volume}
 
 -- ---- a head behind k bytes, and a side behind it
 
-module _ (s : List ℕ) (k : ℕ) (t : Bool) (head : NameAnswer) (h : NameRead) (room : k ≤ length s) (e : head ≡ head_at t (drop k s)) (n : head ≡ Named h) where
+module _ (s : List ℕ) (k : ℕ) (t : Bool) (head : Option NameRead) (h : NameRead) (room : k ≤ length s) (e : head ≡ head_at t (drop k s)) (n : head ≡ Some h) where
   pub head_room : k + h.used ≤ length s
   head_room = omega (arith, head_used t (drop k s) h head e n, length-drop k s)
 
@@ -57,14 +36,14 @@ module _ (s : List ℕ) (k : ℕ) (t : Bool) (head : NameAnswer) (h : NameRead) 
   pub name_short : h.length ≤ 21
   name_short = head_short t (drop k s) h head e n
 
-module _ (s : List ℕ) (n : ℕ) (first : Beside) (letters : Letters) (a b : Bool) (side : SideAnswer) (x : SideRead) (e : side ≡ side_at first letters a b (drop n s)) (f : side ≡ Sided x) where
+module _ (s : List ℕ) (n : ℕ) (first : Option Volume) (letters : Letters) (a b : Bool) (side : Result SideRead Refusal) (x : SideRead) (e : side ≡ side_at first letters a b (drop n s)) (f : side ≡ Ok x) where
   pub side_room : n ≤ length s → n + x.taken.used ≤ length s
   side_room h = omega (arith, side_within (drop n s) letters x first a b side e f, length-drop n s)
 
   pub side_fits : n ≤ length s → length s < 2 ^ 64 → n + x.taken.used < 2 ^ 64
   side_fits h l = omega (arith, side_room h)
 
-module _ (s : List ℕ) (k : ℕ) (t : Bool) (head : NameAnswer) (h : NameRead) (room : k ≤ length s) (e : head ≡ head_at t (drop k s)) (n : head ≡ Named h) (first : Beside) (letters : Letters) (a b : Bool) (side : SideAnswer) (x : SideRead) (f : side ≡ side_at first letters a b (drop (k + h.used) s)) (g : side ≡ Sided x) where
+module _ (s : List ℕ) (k : ℕ) (t : Bool) (head : Option NameRead) (h : NameRead) (room : k ≤ length s) (e : head ≡ head_at t (drop k s)) (n : head ≡ Some h) (first : Option Volume) (letters : Letters) (a b : Bool) (side : Result SideRead Refusal) (x : SideRead) (f : side ≡ side_at first letters a b (drop (k + h.used) s)) (g : side ≡ Ok x) where
   pub both_room : k + h.used + x.taken.used ≤ length s
   both_room = side_room s (k + h.used) first letters a b side x f g (head_room s k t head h room e n)
 
@@ -72,7 +51,7 @@ module _ (s : List ℕ) (k : ℕ) (t : Bool) (head : NameAnswer) (h : NameRead) 
   both_fit l = omega (arith, both_room)
 
 -- of a trade
-module _ (s : List ℕ) (t : Bool) (head : NameAnswer) (h : NameRead) (e : head ≡ head_at t s) (n : head ≡ Named h) (first : Beside) (letters : Letters) (a b : Bool) (side : SideAnswer) (x : SideRead) (f : side ≡ side_at first letters a b (drop h.used s)) (g : side ≡ Sided x) where
+module _ (s : List ℕ) (t : Bool) (head : Option NameRead) (h : NameRead) (e : head ≡ head_at t s) (n : head ≡ Some h) (first : Option Volume) (letters : Letters) (a b : Bool) (side : Result SideRead Refusal) (x : SideRead) (f : side ≡ side_at first letters a b (drop h.used s)) (g : side ≡ Ok x) where
   pub trade_room : h.used + x.taken.used ≤ length s
   trade_room = side_room s h.used first letters a b side x f g (head_used t s h head e n)
 
@@ -81,14 +60,14 @@ module _ (s : List ℕ) (t : Bool) (head : NameAnswer) (h : NameRead) (e : head 
 
 -- ---- the correcting trade
 
-module _ (s name : List ℕ) (n : ℕ) (again : AgainAnswer) (g : AgainRead) (room : n ≤ length s) (e : again ≡ again_at name (drop n s)) (f : again ≡ Again g) where
+module _ (s name : List ℕ) (n : ℕ) (again : Option AgainRead) (g : AgainRead) (room : n ≤ length s) (e : again ≡ again_at name (drop n s)) (f : again ≡ Some g) where
   pub again_room : n + g.used ≤ length s
   again_room = omega (arith, again_used name (drop n s) g again e f, length-drop n s)
 
   pub again_fits : length s < 2 ^ 64 → n + g.used < 2 ^ 64
   again_fits l = omega (arith, again_room)
 
-  pub second_room : (first : Beside) (letters : Letters) (a b : Bool) (side : SideAnswer) (y : SideRead) → side ≡ side_at first letters a b (drop (n + g.used) s) → side ≡ Sided y → n + g.used + y.taken.used ≤ length s
+  pub second_room : (first : Option Volume) (letters : Letters) (a b : Bool) (side : Result SideRead Refusal) (y : SideRead) → side ≡ side_at first letters a b (drop (n + g.used) s) → side ≡ Ok y → n + g.used + y.taken.used ≤ length s
   second_room first letters a b side y k l = side_room s (n + g.used) first letters a b side y k l again_room
 
 -- ---- texts that stand
@@ -115,3 +94,18 @@ module _ (s : List ℕ) (q : Bool) where
 
   pub error_room : q ≡ starts (bytes "<<ERR.") s → q ≡ true → 6 ≤ length s
   error_room e y = starts_within (bytes "<<ERR.") s (sym e ∙ y)
+
+-- ---- as the code cuts it out
+
+module _ (s : List ℕ) (n : ℕ) (h : n ≤ length s) where
+  pub heads_within : (t : Bool) (r : Option NameRead) → r ≡ head_at t (take (length s - n) (drop n s)) → IfSome r (λ x. (n + x.used ≤ length s) × (n + x.length ≤ length s) × (x.length ≤ 21))
+  heads_within t None e = tt
+  heads_within t (Some x) e = let k : Some x ≡ head_at t (drop n s) = rw (rest_is s n) at e in (head_room s n t (Some x) x h k refl, name_room s n t (Some x) x h k refl, name_short s n t (Some x) x h k refl)
+
+  pub agains_within : (name : List ℕ) (r : Option AgainRead) → r ≡ again_at name (take (length s - n) (drop n s)) → IfSome r (λ g. n + g.used ≤ length s)
+  agains_within name None e = tt
+  agains_within name (Some g) e = again_room s name n (Some g) g h (rw (rest_is s n) at e) refl
+
+  pub sides_within : (first : Option Volume) (letters : Letters) (a b : Bool) (r : Result SideRead Refusal) → r ≡ side_at first letters a b (take (length s - n) (drop n s)) → IfOk r (λ x. n + x.taken.used ≤ length s)
+  sides_within first letters a b (Err q) e = tt
+  sides_within first letters a b (Ok x) e = side_room s n first letters a b (Ok x) x (rw (rest_is s n) at e) refl h

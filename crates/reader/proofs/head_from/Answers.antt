@@ -1,5 +1,5 @@
-use Rattle.reader.proofs.Rooms.{head_cut}
+use Rattle.reader.proofs.Rooms.{heads_within}
 use Rattle.reader.proofs.head_from.Goals as goal
 
-pub returns : goal.returns
-returns c = search head_cut
+pub returns-clause-within : goal.returns-clause-within
+returns-clause-within c = heads_within c.args.s.now c.args.n c.requires c.args.temporary _ c.head_at.ensures

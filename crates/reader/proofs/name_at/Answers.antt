@@ -13,5 +13,5 @@ slice_bounds-result-end c = search name_within
 pub returns-then-place-tape : goal.returns-then-place-tape
 returns-then-place-tape c = search name_is
 
-pub returns : goal.returns
-returns c = search no_name_lem
+pub returns-else-place-tape : goal.returns-else-place-tape
+returns-else-place-tape c = search no_name_lem

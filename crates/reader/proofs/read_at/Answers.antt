@@ -1,5 +1,4 @@
-use Rattle.reader.proofs.Prints.{read_is}
-use Rattle.reader.proofs.Bounds.{past_end}
+use Rattle.reader.proofs.Bounds.{past_end, read_is}
 use Rattle.reader.proofs.Numbers.{answered}
 use Rattle.reader.proofs.read_at.Goals as goal
 

@@ -1,5 +1,5 @@
-use Rattle.reader.proofs.Rooms.{side_cut}
+use Rattle.reader.proofs.Rooms.{sides_within}
 use Rattle.reader.proofs.side_from.Goals as goal
 
-pub returns : goal.returns
-returns c = search side_cut
+pub returns-clause-within : goal.returns-clause-within
+returns-clause-within c = sides_within c.args.s.now c.args.n c.requires _ _ _ _ _ c.side_at.ensures
