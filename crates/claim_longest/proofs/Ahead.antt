@@ -6,26 +6,28 @@ use mathlib.Core.List.{List, [], ◌++◌, append_assoc}
 use mathlib.Core.Option.{Option, none, some}
 use lib.ListN.{length, take, drop, take-append-drop}
 use lib.Seq.{length-take-le, take-append-le}
+use Rattle.std.specs.Prelude.{Result, Ok, Err}
 use Rattle.rules.specs.Sizes.{longest_print}
 use Rattle.rules.specs.NormalPrint.{ReadFact, NormalPrint}
-use Rattle.reader.specs.declared.ReadAnswer.{ReadAnswer}
-use Rattle.reader.specs.declared.ReadAnswer.TheVariants.{Announcement, Trade, Cancel, Error, Correction, Refused}
+use Rattle.rules.specs.declared.Refusal.{Refusal}
+use Rattle.reader.specs.declared.Print.TheVariants.{Announcement, Trade, Cancel, Error, Correction}
 use Rattle.reader.specs.Read.{print_at, read_at}
 use Rattle.reader.specs.Told.{length_of, name_length, name_in, name_at, fact_in}
 use Rattle.reader.proofs.Bounds.{print_within}
+use Rattle.reader.specs.declared.Print.{Print}
 use Rattle.claim_longest.proofs.Longest.{no_fact, no_length, longest_print_lem}
 use Rattle.claim_longest.proofs.Determined.{determined}
 use Rattle.claim_longest.proofs.Short.{print_short}
 
 -- no facts, no name
-no_name_lem : (s : List ℕ) (r : ReadAnswer) → fact_in s r ≡ none → name_in s r ≡ []
+no_name_lem : (s : List ℕ) (r : Result Print Refusal) → fact_in s r ≡ none → name_in s r ≡ []
 unfolding fact_in name_in name_length
-no_name_lem s (Announcement n) e = refl
-no_name_lem s (Trade x) e = absurd (no_fact _ (sym e))
-no_name_lem s (Cancel x) e = absurd (no_fact _ (sym e))
-no_name_lem s (Error x) e = absurd (no_fact _ (sym e))
-no_name_lem s (Correction x) e = absurd (no_fact _ (sym e))
-no_name_lem s (Refused r) e = refl
+no_name_lem s (Ok (Announcement n)) e = refl
+no_name_lem s (Ok (Trade x)) e = absurd (no_fact _ (sym e))
+no_name_lem s (Ok (Cancel x)) e = absurd (no_fact _ (sym e))
+no_name_lem s (Ok (Error x)) e = absurd (no_fact _ (sym e))
+no_name_lem s (Ok (Correction x)) e = absurd (no_fact _ (sym e))
+no_name_lem s (Err r) e = refl
 
 -- ---- what is told at the front of a text
 

@@ -6,6 +6,7 @@ use mathlib.Core.Bool.{Bool, true, false, not}
 use mathlib.Core.List.{List, ◌++◌, append_assoc}
 use lib.ListN.{length, drop, length-append}
 use lib.Seq.{drop-drop, drop-append_seam}
+use Rattle.std.specs.Prelude.{Option, Some, None}
 use Rattle.text.proofs.Tests.{is_ne}
 use Rattle.text.specs.Pick.{pick, opt}
 use Rattle.text.specs.Reading.{heads}
@@ -20,10 +21,8 @@ use Rattle.print_side.proofs.SideBack.{side_lower}
 use Rattle.line_owed.specs.Shown.{Enterable, Showable}
 use Rattle.read_name.specs.Name.{name_on}
 use Rattle.read_name.specs.Head.{letters_after, head_at}
-use Rattle.read_name.specs.declared.NameAnswer.TheVariants.{Named}
 use Rattle.claim_names.proofs.Lawful.{name_lawful}
 use Rattle.claim_names.proofs.Head.{head_read, head_found}
-use Rattle.read_side.specs.declared.Beside.TheVariants.{Alone}
 use Rattle.read_side.specs.Side.{side_at}
 use Rattle.reader.specs.declared.PrintRead.{PrintRead}
 use Rattle.claim_longest.proofs.SideBack.{shown_n}
@@ -55,21 +54,27 @@ plus_none : (n : ℕ) → n ≡ n + 0
 plus_none n = omega arith
 
 -- the end pair where the tail ended
-pub end_by_g : (s : List ℕ) (n : ℕ) (y : Side) → y.letters.g ≡ true → end_at s n y ≡ n
+pub end_by_g : (s : List ℕ) (n : ℕ) (y : Side) → y.letters.g ≡ true → end_at s n y ≡ Some n
 unfolding end_at pick
 end_by_g s n y e = rw e
 
-end_by_pair : (s : List ℕ) (n : ℕ) (y : Side) (R : List ℕ) → y.letters.g ≡ false → drop n s ≡ bytes ">>" ++ R → end_at s n y ≡ n + 2
+end_by_pair : (s : List ℕ) (n : ℕ) (y : Side) (R : List ℕ) → y.letters.g ≡ false → drop n s ≡ bytes ">>" ++ R → end_at s n y ≡ Some (n + 2)
 unfolding end_at pick
 end_by_pair s n y R e d = rw (e, d, starts_append (bytes ">>") R)
 
-pub end_reaches : (s : List ℕ) (n : ℕ) (y x : Side) (R : List ℕ) → y.letters.g ≡ x.letters.g → drop n s ≡ end_pair x ++ R → end_at s n y ≡ n + length (end_pair x)
+pub end_reaches : (s : List ℕ) (n : ℕ) (y x : Side) (R : List ℕ) → y.letters.g ≡ x.letters.g → drop n s ≡ end_pair x ++ R → end_at s n y ≡ Some (n + length (end_pair x))
 unfolding end_pair opt
 end_reaches s n y x R e d = go x.letters.g refl
   where
-    go : (g : Bool) → x.letters.g ≡ g → end_at s n y ≡ n + length (opt (not x.letters.g) (bytes ">>"))
-    go true f = rw f (end_by_g s n y (e ∙ f) ∙ plus_none n)
+    go : (g : Bool) → x.letters.g ≡ g → end_at s n y ≡ Some (n + length (opt (not x.letters.g) (bytes ">>")))
+    go true f = rw f (end_by_g s n y (e ∙ f) ∙ ap Some (plus_none n))
     go false f = rw f (end_by_pair s n y R (e ∙ f) (d ∙ ap (λ b. opt (not b) (bytes ">>") ++ R) f))
+
+-- the end stands at m, n bytes or further
+pub record EndsBehind (n : ℕ) (end : Option ℕ) : Type 0 where
+  pub m : ℕ
+  pub is : end ≡ Some m
+  pub far : n ≤ m
 
 pub pair_short : (x : Side) → length (end_pair x) ≤ 2
 unfolding end_pair opt
@@ -101,7 +106,7 @@ module _ (error : Bool) (opening : List ℕ) (six : length opening ≡ 6) (netwo
   unfolding opt
   lower = side_lower network unit x.volume Full true x.price (tail_text x ++ (end_pair x ++ R)) (some_price x.price h.price_fits)
 
-  headed : head_at false (head ++ rest) ≡ Named (head_read false (name_text false name) x.letters)
+  headed : head_at false (head ++ rest) ≡ Some (head_read false (name_text false name) x.letters)
   headed = head_found false network name e.on e.plain x.letters (shown_n network x h) (shown_sold network x h) rest lower
 
   closes : x.letters.g ≡ false → Closes (end_pair x ++ R)
@@ -129,26 +134,33 @@ module _ (error : Bool) (opening : List ℕ) (six : length opening ≡ 6) (netwo
       let l : size_of ≡ length (v ++ (p ++ tail_text x)) = omega (length-append v (p ++ tail_text x), length-append p (tail_text x), arith) in
       sym (drop-drop size_of (6 + length head) tape) ∙ ap (drop size_of) further ∙ ap (λ n. drop n rest) l ∙ ap (drop (length (v ++ (p ++ tail_text x)))) k ∙ drop-append_seam (v ++ (p ++ tail_text x)) r
 
-  sided : SideEnds (side_at Alone (letters_after x.letters.m x.letters.o x.letters.s x.letters.l) (name_on false 65 (name_text false name)) (name_on false 66 (name_text false name)) rest) network unit size_of x (end_pair x ++ R)
+  sided : SideEnds (side_at None (letters_after x.letters.m x.letters.o x.letters.s x.letters.l) (name_on false 65 (name_text false name)) (name_on false 66 (name_text false name)) rest) network unit size_of x (end_pair x ++ R)
   unfolding beside
   sided =
       let v = volume_in x.volume h.volume_fits in
-      side_ends Alone network unit x h e.trades_in e.on (name_on false 65 (name_text false name)) (name_on false 66 (name_text false name)) (flag_there false network (name_text false name) e.on (name_lawful false network name e.plain)) (end_pair x ++ R) closes v.0 v.1 (λ w i. i)
+      side_ends None network unit x h e.trades_in e.on (name_on false 65 (name_text false name)) (name_on false 66 (name_text false name)) (flag_there false network (name_text false name) e.on (name_lawful false network name e.plain)) (end_pair x ++ R) closes v.0 v.1 (λ w i. i)
 
   -- how far the answer goes
-  ending : (end : Taken) → TailEnd end size_of (letters_before (letters_after x.letters.m x.letters.o x.letters.s x.letters.l) x.letters.k x.letters.b x.letters.t x.letters.r x.letters.j) sided.flags (pick x.letters.j false sided.others) x.letters.g (end_pair x ++ R) → 6 + length head + size_of + length (end_pair x) ≤ end_at tape (6 + length head + end.used) end.side
-  ending end (ended u l a b) = omega (ap (λ n. end_at tape (6 + length head + n) end.side) u ∙ end_reaches tape (6 + length head + size_of) end.side x R (ap (λ y. y.g) l) at_end, arith)
-  ending end (more g l u s) = omega (end_by_g tape (6 + length head + end.used) end.side (ap (λ y. y.g) l), u, pair_short x, arith)
+  ending : (end : Taken) → TailEnd end size_of (letters_before (letters_after x.letters.m x.letters.o x.letters.s x.letters.l) x.letters.k x.letters.b x.letters.t x.letters.r x.letters.j) sided.flags (pick x.letters.j false sided.others) x.letters.g (end_pair x ++ R) → EndsBehind (6 + length head + size_of + length (end_pair x)) (end_at tape (6 + length head + end.used) end.side)
+  ending end (ended u l a b) = record {
+    m = 6 + length head + size_of + length (end_pair x);
+    is = ap (λ n. end_at tape (6 + length head + n) end.side) u ∙ end_reaches tape (6 + length head + size_of) end.side x R (ap (λ y. y.g) l) at_end;
+    far = omega arith;
+  }
+  ending end (more g l u s) = record {
+    m = 6 + length head + end.used;
+    is = end_by_g tape (6 + length head + end.used) end.side (ap (λ y. y.g) l);
+    far = omega (u, pair_short x, arith);
+  }
 
   -- THE CANCEL, WHOLE AT LEAST
   pub cancel_reaches : CancelReaches (cancel_text opening (name_text false name) network unit Full true x ++ R) error (length (cancel_text opening (name_text false name) network unit Full true x))
   unfolding cancel_at cancel_head cancel_side head_read ended_by pick
   cancel_reaches =
       let r = sided in
-      let far = ending r.got.taken r.tail in
-      let n = end_at tape (6 + length head + r.got.taken.used) r.got.taken.side in
+      let end = ending r.got.taken r.tail in
       record {
-        got = record { length = n; from = 6; to = 6 + length (name_text false name); side = r.got.taken.side };
-        is = rw (joined, behind, headed, further, r.is, sym (is_ne n 0 (λ z. omega (z, far, arith))));
-        far = omega (size, far, arith);
+        got = record { length = end.m; from = 6; to = 6 + length (name_text false name); side = r.got.taken.side };
+        is = rw (joined, behind, headed, further, r.is, end.is);
+        far = omega (size, end.far, arith);
       }

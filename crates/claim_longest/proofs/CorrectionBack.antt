@@ -8,6 +8,7 @@ use mathlib.Core.List.{List, [], ◌++◌, append_assoc}
 use lib.Dec.{eqb, leb}
 use lib.ListN.{length, take, drop, length-append}
 use lib.Seq.{drop-append_seam, take-append_seam}
+use Rattle.std.specs.Prelude.{Option, Some, None, Ok}
 use Rattle.text.proofs.Tests.{is_ne}
 use borrow.Author.Tests.{eqb-true}
 use Rattle.text.specs.Pick.{pick, opt, among}
@@ -25,10 +26,8 @@ use Rattle.print_side.proofs.SideBack.{side_lower}
 use Rattle.line_owed.specs.Shown.{Enterable, Showable}
 use Rattle.read_name.specs.Name.{name_on}
 use Rattle.read_name.specs.Head.{letters_after, head_at}
-use Rattle.read_name.specs.declared.NameAnswer.TheVariants.{Named}
 use Rattle.claim_names.proofs.Lawful.{name_lawful}
 use Rattle.claim_names.proofs.Head.{head_read, head_found}
-use Rattle.read_side.specs.declared.Beside.TheVariants.{Alone, With}
 use Rattle.read_side.specs.Side.{side_at}
 use Rattle.claim_longest.proofs.SideBack.{flag_of, shown_n}
 use Rattle.line_owed.proofs.Shown.{some_price, shown_sold}
@@ -50,20 +49,18 @@ use Rattle.text.proofs.Booleans.{neither, false_true, or_cases}
 use Rattle.name_back.specs.Cut.{one_sold}
 use Rattle.read_name.specs.Head.{again_at}
 use Rattle.read_name.specs.declared.AgainRead.{AgainRead}
-use Rattle.read_name.specs.declared.AgainAnswer.{AgainAnswer}
-use Rattle.read_name.specs.declared.AgainAnswer.TheVariants.{Again}
 use Rattle.name_back.proofs.Back.{name_upper, name_some}
 use Rattle.name_text.proofs.Text.{name_most}
 use Rattle.claim_names.proofs.Again.{again_read, again_found, again_none}
 use Rattle.read_side.specs.declared.SideRead.{SideRead}
 use Rattle.reader.specs.declared.CorrectionRead.{CorrectionRead}
-use Rattle.reader.specs.declared.ReadAnswer.TheVariants.{Correction}
+use Rattle.reader.specs.declared.Print.TheVariants.{Correction}
 use Rattle.reader.specs.Read.{corrected_by, second_side, second_head, second_at, correction_side, correction_head, correction_at}
 use Rattle.claim_longest.proofs.Figures.{unmarked_was}
 use Rattle.claim_longest.proofs.TailExact.{ended_was, set_g}
 use Rattle.claim_longest.proofs.SideBack.{shown_c, rule_network, previous_network}
 use Rattle.claim_longest.proofs.Tail.{dropped_all}
-use Rattle.claim_longest.proofs.CancelBack.{closes_pair, end_by_g, end_reaches, pair_short}
+use Rattle.claim_longest.proofs.CancelBack.{closes_pair, end_by_g, end_reaches, EndsBehind, pair_short}
 use Rattle.rules.specs.declared.PriceForm.TheVariants.{Full}
 
 -- behind the original
@@ -77,7 +74,7 @@ no_previous s = refl
 
 pub record CorrectionReaches (s : List ℕ) (n : ℕ) : Type 0 where
   pub got : CorrectionRead
-  pub is : correction_at s ≡ Correction got
+  pub is : correction_at s ≡ Ok (Correction got)
   pub far : n ≤ got.length
 
 -- where a side ended exactly: its bytes, its letters and the networks left
@@ -151,21 +148,21 @@ same_letters_lem x p = rw (p.no_m, p.no_o, p.no_s, p.no_l)
 abbrev after_read : List ℕ → Letters → AgainRead
 after_read head x = record { used = length head; letters = letters_after x.m x.o x.s x.l }
 
-again_yes : (text : List ℕ) (x : Letters) (s : List ℕ) → x.n ≡ false → one_sold x ≡ true → heads is_upper s ≡ false → all is_upper text ≡ true → length text ≤ 22 → 1 ≤ length text → again_at text ((text ++ after_name x) ++ s) ≡ Again (after_read (text ++ after_name x) x)
+again_yes : (text : List ℕ) (x : Letters) (s : List ℕ) → x.n ≡ false → one_sold x ≡ true → heads is_upper s ≡ false → all is_upper text ≡ true → length text ≤ 22 → 1 ≤ length text → again_at text ((text ++ after_name x) ++ s) ≡ Some (after_read (text ++ after_name x) x)
 unfolding again_read
 again_yes text x s n o l u k i = again_found x n o s l text u k i
 
-again_not : (text : List ℕ) (x : Letters) (s : List ℕ) → one_sold x ≡ true → heads is_upper s ≡ false → repeats_name x ≡ false → again_at text (([] ++ after_name x) ++ s) ≡ Again (after_read ([] ++ after_name x) x)
+again_not : (text : List ℕ) (x : Letters) (s : List ℕ) → one_sold x ≡ true → heads is_upper s ≡ false → repeats_name x ≡ false → again_at text (([] ++ after_name x) ++ s) ≡ Some (after_read ([] ++ after_name x) x)
 again_not text x s o l r =
     let p = plain x r in
     let e = nothing_after x p in
     ap (λ z. again_at text (z ++ s)) e ∙ again_none x p.no_n o s l text e ∙ alike_read (sym (ap length e)) (sym (same_letters_lem x p))
   where
-    alike_read : {n m : ℕ} {y z : Letters} → n ≡ m → y ≡ z → ◌≡◌ {A = AgainAnswer} (Again (record { used = n; letters = y })) (Again (record { used = m; letters = z }))
+    alike_read : {n m : ℕ} {y z : Letters} → n ≡ m → y ≡ z → ◌≡◌ {A = Option AgainRead} (Some (record { used = n; letters = y })) (Some (record { used = m; letters = z }))
     alike_read p q = rw (p, q)
 
 again_is : (text : List ℕ) (x : Letters) (s : List ℕ) → x.n ≡ false → one_sold x ≡ true → heads is_upper s ≡ false → all is_upper text ≡ true → length text ≤ 22 → 1 ≤ length text → (b : Bool) → repeats_name x ≡ b
-    → again_at text ((opt b text ++ after_name x) ++ s) ≡ Again (after_read (opt b text ++ after_name x) x)
+    → again_at text ((opt b text ++ after_name x) ++ s) ≡ Some (after_read (opt b text ++ after_name x) x)
 unfolding opt
 again_is text x s n o l u k i true r = again_yes text x s n o l u k i
 again_is text x s n o l u k i false r = again_not text x s o l r
@@ -274,7 +271,7 @@ module _ (network unit : ℕ) (name : List ℕ) (x y : Side) (e : Enterable netw
   named : take (length text) (drop 7 tape) ≡ text
   named = ap (take (length text)) (at7 ∙ append_assoc text (after_name x.letters) rest) ∙ take-append_seam text (after_name x.letters ++ rest)
 
-  headed : head_at false (head ++ rest) ≡ Named (head_read false text x.letters)
+  headed : head_at false (head ++ rest) ≡ Some (head_read false text x.letters)
   headed = head_found false network name e.on e.plain x.letters (shown_n network x h) (shown_sold network x h) rest lower
 
   abbrev a : Bool
@@ -284,11 +281,11 @@ module _ (network unit : ℕ) (name : List ℕ) (x y : Side) (e : Enterable netw
   b = name_on false 66 text
 
   -- the original
-  first_side : SideEnds (side_at Alone (letters_after x.letters.m x.letters.o x.letters.s x.letters.l) a b rest) network unit size x (bytes "WAS." ++ rest₂)
+  first_side : SideEnds (side_at None (letters_after x.letters.m x.letters.o x.letters.s x.letters.l) a b rest) network unit size x (bytes "WAS." ++ rest₂)
   unfolding beside
   first_side =
       let v = volume_in x.volume h.volume_fits in
-      side_ends Alone network unit x h e.trades_in e.on a b (flag_there false network text e.on (name_lawful false network name e.plain)) (bytes "WAS." ++ rest₂) (λ g. closes_was rest₂) v.0 v.1 (λ w k. k)
+      side_ends None network unit x h e.trades_in e.on a b (flag_there false network text e.on (name_lawful false network name e.plain)) (bytes "WAS." ++ rest₂) (λ g. closes_was rest₂) v.0 v.1 (λ w k. k)
 
   abbrev got : SideRead
   got = first_side.got
@@ -297,7 +294,7 @@ module _ (network unit : ℕ) (name : List ℕ) (x y : Side) (e : Enterable netw
   first_exact = exactly got network size x rest₂ first_side.flags first_side.others _ h e.on first_side.on first_side.tail
 
   -- the name again
-  again : again_at text rest₂ ≡ Again (after_read head₂ y.letters)
+  again : again_at text rest₂ ≡ Some (after_read head₂ y.letters)
   again = again_is text y.letters rest₃ (shown_n network y i) (shown_sold network y i) lower₃ (name_upper network name e.plain false) (name_most false name) (name_some network name e.plain false) (repeats_name y.letters) refl
 
   closes : y.letters.g ≡ false → Closes (end_pair y ++ R)
@@ -305,11 +302,11 @@ module _ (network unit : ℕ) (name : List ℕ) (x y : Side) (e : Enterable netw
   closes g = rw g (closes_pair R)
 
   -- the correcting trade
-  second_ends : SideEnds (side_at (With got.volume) (letters_after y.letters.m y.letters.o y.letters.s y.letters.l) got.taken.a got.taken.b rest₃) network unit size₂ y (end_pair y ++ R)
+  second_ends : SideEnds (side_at (Some got.volume) (letters_after y.letters.m y.letters.o y.letters.s y.letters.l) got.taken.a got.taken.b rest₃) network unit size₂ y (end_pair y ++ R)
   unfolding beside
   second_ends =
       let v = volume_in y.volume i.volume_fits in
-      side_ends (With got.volume) network unit y i e.trades_in e.on got.taken.a got.taken.b first_exact.flag_left (end_pair y ++ R) closes v.0 v.1 (λ w k. first_side.by_unit)
+      side_ends (Some got.volume) network unit y i e.trades_in e.on got.taken.a got.taken.b first_exact.flag_left (end_pair y ++ R) closes v.0 v.1 (λ w k. first_side.by_unit)
 
   abbrev got₂ : SideRead
   got₂ = second_ends.got
@@ -319,16 +316,20 @@ module _ (network unit : ℕ) (name : List ℕ) (x y : Side) (e : Enterable netw
 
   -- how far the answer goes, and whether its letters repeat the name
   record Ending (end : Taken) : Type 0 where
-    far : before + size₂ + length (end_pair y) ≤ end_at tape (before + end.used) end.side
+    ends : EndsBehind (before + size₂ + length (end_pair y)) (end_at tape (before + end.used) end.side)
     duly : repeats_name end.side.letters ≡ repeats_name y.letters
 
   ending : (end : Taken) (f g : Bool) → TailEnd end size₂ (letters_before (letters_after y.letters.m y.letters.o y.letters.s y.letters.l) y.letters.k y.letters.b y.letters.t y.letters.r y.letters.j) f g y.letters.g (end_pair y ++ R) → Ending end
   ending end f g (ended u l p q) = record {
-    far = omega (ap (λ n. end_at tape (before + n) end.side) u ∙ end_reaches tape (before + size₂) end.side y R (ap (λ z. z.g) l) at_end, arith);
+    ends = record {
+      m = before + size₂ + length (end_pair y);
+      is = ap (λ n. end_at tape (before + n) end.side) u ∙ end_reaches tape (before + size₂) end.side y R (ap (λ z. z.g) l) at_end;
+      far = omega arith;
+    };
     duly = read_repeats y.letters end.side.letters (shown_n network y i) (shown_c network y i) y.letters.g l;
   }
   ending end f g (more z l u s) = record {
-    far = omega (end_by_g tape (before + end.used) end.side (ap (λ w. w.g) l), u, pair_short y, arith);
+    ends = record { m = before + end.used; is = end_by_g tape (before + end.used) end.side (ap (λ w. w.g) l); far = omega (u, pair_short y, arith) };
     duly = read_repeats y.letters end.side.letters (shown_n network y i) (shown_c network y i) true l;
   }
 
@@ -339,24 +340,24 @@ module _ (network unit : ℕ) (name : List ℕ) (x y : Side) (e : Enterable netw
   duly = ap (λ z. alike z (leb 1 (length head₂))) ends.duly ∙ repeats_duly text y.letters (name_some network name e.plain false) (repeats_name y.letters) refl
 
   abbrev far : ℕ
-  far = end_at tape (before + got₂.taken.used) got₂.taken.side
+  far = ends.ends.m
 
-  second_is : second_side tape (head_read false text x.letters) got.taken.side before (length head₂) (side_at (With got.volume) (letters_after y.letters.m y.letters.o y.letters.s y.letters.l) got.taken.a got.taken.b rest₃)
-      ≡ Correction (record { length = far; from = 7; to = 7 + length text; original = got.taken.side; correcting = got₂.taken.side })
+  second_is : second_side tape (head_read false text x.letters) got.taken.side before (length head₂) (side_at (Some got.volume) (letters_after y.letters.m y.letters.o y.letters.s y.letters.l) got.taken.a got.taken.b rest₃)
+      ≡ Ok (Correction (record { length = far; from = 7; to = 7 + length text; original = got.taken.side; correcting = got₂.taken.side }))
   unfolding second_side corrected_by head_read pick
-  second_is = rw (second_ends.is, duly, sym (is_ne far 0 (λ z. omega (z, ends.far, arith))))
+  second_is = rw (second_ends.is, duly, ends.ends.is)
 
-  at_was_is : second_at tape (head_read false text x.letters) got (7 + length head + size) ≡ Correction (record { length = far; from = 7; to = 7 + length text; original = got.taken.side; correcting = got₂.taken.side })
+  at_was_is : second_at tape (head_read false text x.letters) got (7 + length head + size) ≡ Ok (Correction (record { length = far; from = 7; to = 7 + length text; original = got.taken.side; correcting = got₂.taken.side }))
   unfolding second_at second_head head_read pick
   at_was_is = rw (at_was, starts_append (bytes "WAS.") rest₂, at_again, named, again, at_second) second_is
 
-  whole_is : correction_at (correction_text text network unit Full true x y ++ R) ≡ Correction (record { length = far; from = 7; to = 7 + length text; original = got.taken.side; correcting = got₂.taken.side })
+  whole_is : correction_at (correction_text text network unit Full true x y ++ R) ≡ Ok (Correction (record { length = far; from = 7; to = 7 + length text; original = got.taken.side; correcting = got₂.taken.side }))
   unfolding correction_at correction_head correction_side head_read
   whole_is =
       ap correction_at joined
       ∙ ap (λ z. correction_head tape (head_at false z)) at7
       ∙ ap (correction_head tape) headed
-      ∙ ap (λ z. correction_side tape (head_read false text x.letters) (side_at Alone (letters_after x.letters.m x.letters.o x.letters.s x.letters.l) a b z)) at_side
+      ∙ ap (λ z. correction_side tape (head_read false text x.letters) (side_at None (letters_after x.letters.m x.letters.o x.letters.s x.letters.l) a b z)) at_side
       ∙ ap (correction_side tape (head_read false text x.letters)) first_side.is
       ∙ ap (λ n. second_at tape (head_read false text x.letters) got (7 + length head + n)) first_exact.used_is
       ∙ at_was_is
@@ -366,5 +367,5 @@ module _ (network unit : ℕ) (name : List ℕ) (x y : Side) (e : Enterable netw
   correction_reaches = record {
     got = record { length = far; from = 7; to = 7 + length text; original = got.taken.side; correcting = got₂.taken.side };
     is = whole_is;
-    far = omega (total, ends.far, arith);
+    far = omega (total, ends.ends.far, arith);
   }

@@ -7,6 +7,7 @@ use mathlib.Core.List.{List, [], ◌∷◌, ◌++◌, append_assoc}
 use lib.Dec.{eqb, ltb}
 use lib.ListN.{length, drop, length-append, length-take, take-append-drop}
 use borrow.Author.Tests.{not-true}
+use Rattle.std.specs.Prelude.{Option, Some, None}
 use Rattle.text.specs.Bytes.{bytes}
 use Rattle.text.specs.Pick.{pick, opt, all}
 use Rattle.text.specs.Decimal.{decimal, places}
@@ -23,8 +24,6 @@ use Rattle.rules.specs.declared.Price.{Price}
 use Rattle.read_volume.specs.declared.Volume.{Volume}
 use Rattle.read_volume.specs.declared.Volume.TheVariants.{Unsaid, Hundreds, Tens, Shares}
 use Rattle.read_volume.specs.declared.VolumeRead.{VolumeRead}
-use Rattle.read_volume.specs.declared.VolumeAnswer.{VolumeAnswer}
-use Rattle.read_volume.specs.declared.VolumeAnswer.TheVariants.{Said, NoVolume}
 use Rattle.read_volume.specs.Volume.{volume_at, said_text}
 use Rattle.read_volume.proofs.Shown.{VolumeFound, volume_found}
 use Rattle.claim_longest.proofs.Tail.{from_average, size_average}
@@ -143,7 +142,7 @@ record Overlaps (p : Price) (rest : List ℕ) (w : VolumeRead) : Type 0 where
   far : length (price_text Full p) ≤ w.used
   mark_there : is_mark (past_figures rest) ≡ true
 
-overlaps : (p : Price) (rest : List ℕ) (w : VolumeRead) → volume_at (price_text Full p ++ rest) ≡ Said w → Overlaps p rest w
+overlaps : (p : Price) (rest : List ℕ) (w : VolumeRead) → volume_at (price_text Full p ++ rest) ≡ Some w → Overlaps p rest w
 overlaps p Z w e =
     let P = price_text Full p in
     let f = volume_found (P ++ Z) w e in
@@ -155,7 +154,7 @@ overlaps p Z w e =
     record { far = omega (front_ends P Z m.figures (m.mark ++ rest) x (price_figures p) (m.ends rest), l, arith); mark_there = ap is_mark y ∙ m.marks rest }
 
 -- THE VOLUME GOES BEYOND
-pub volume_beyond : (p : Price) (k b t r : Bool) (d : ℕ) (j g : Bool) (q : Price) (R : List ℕ) (w : VolumeRead) → volume_at (price_text Full p ++ (opt k (bytes ",c") ++ from_average b t r d j g q R)) ≡ Said w → length (price_text Full p) + (length (opt k (bytes ",c")) + size_average b t r d j g q) ≤ w.used
+pub volume_beyond : (p : Price) (k b t r : Bool) (d : ℕ) (j g : Bool) (q : Price) (R : List ℕ) (w : VolumeRead) → volume_at (price_text Full p ++ (opt k (bytes ",c") ++ from_average b t r d j g q R)) ≡ Some w → length (price_text Full p) + (length (opt k (bytes ",c")) + size_average b t r d j g q) ≤ w.used
 volume_beyond p k b t r d j g q R w e =
     let o = overlaps p (opt k (bytes ",c") ++ from_average b t r d j g q R) w e in
     omega (o.far, no_mark k b t r d j g q R o.mark_there, arith)
@@ -183,10 +182,10 @@ unmarked_tail false false false false d true g q R h = refl
 unmarked_tail false false false false d false true q R h = refl
 unmarked_tail false false false false d false false q R h = h refl
 
-pub no_volume : (p : Price) (rest : List ℕ) → unmarked rest ≡ true → volume_at (price_text Full p ++ rest) ≡ NoVolume
+pub no_volume : (p : Price) (rest : List ℕ) → unmarked rest ≡ true → volume_at (price_text Full p ++ rest) ≡ None
 unfolding unmarked
 no_volume p rest h = go (volume_at (price_text Full p ++ rest)) refl
   where
-    go : (y : VolumeAnswer) → volume_at (price_text Full p ++ rest) ≡ y → y ≡ NoVolume
-    go NoVolume e = refl
-    go (Said w) e = absurd (false_true (sym (not-true (is_mark (past_figures rest)) h) ∙ (overlaps p rest w e).mark_there))
+    go : (y : Option VolumeRead) → volume_at (price_text Full p ++ rest) ≡ y → y ≡ None
+    go None e = refl
+    go (Some w) e = absurd (false_true (sym (not-true (is_mark (past_figures rest)) h) ∙ (overlaps p rest w e).mark_there))

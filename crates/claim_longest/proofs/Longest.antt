@@ -4,10 +4,10 @@ use native.Mathlib.Omega.{arith}
 use mathlib.Core.Path.{◌≡◌, refl, sym, ap, ◌∙◌, subst}
 use mathlib.Core.Bool.{Bool, true, false, ◌&&◌}
 use mathlib.Core.List.{List, [], ◌∷◌, ◌++◌, append_assoc}
-use lib.Dec.{eqb, leb}
-use borrow.Author.Tests.{eqb-false}
-use mathlib.Core.Option.{Option, none, some}
+use lib.Dec.{leb}
+use mathlib.Core.Option.{Option as Maybe, none, some}
 use lib.ListN.{length, take, drop}
+use Rattle.std.specs.Prelude.{Option, Some, None, Result, Ok, Err}
 use Rattle.claim_decoder.proofs.Fresh.{letter_unlike}
 use Rattle.claim_decoder.proofs.Undone.{mode_starts, level_starts}
 use Rattle.text.specs.Bytes.{bytes}
@@ -19,10 +19,7 @@ use Rattle.rules.specs.Volume.{volume_text}
 use Rattle.rules.specs.Side.{tail_text}
 use Rattle.rules.specs.declared.Side.{Side}
 use Rattle.line_owed.specs.Shown.{Showable}
-use Rattle.read_side.specs.declared.Beside.TheVariants.{Alone, With}
 use Rattle.read_side.specs.declared.SideRead.{SideRead}
-use Rattle.read_side.specs.declared.SideAnswer.{SideAnswer}
-use Rattle.read_side.specs.declared.SideAnswer.TheVariants.{Sided, Refused as Unsided}
 use Rattle.read_side.specs.Side.{side_at}
 use Rattle.text.specs.Reading.{starts}
 use Rattle.rules.specs.Names.{name_text}
@@ -35,12 +32,9 @@ use Rattle.claim_compose.specs.Printable.{part_in, Printable, by_trade}
 use Rattle.rules.specs.Correction.{cancel_text}
 use Rattle.read_name.specs.Head.{head_at}
 use Rattle.read_name.specs.declared.NameRead.{NameRead}
-use Rattle.read_name.specs.declared.NameAnswer.{NameAnswer}
-use Rattle.read_name.specs.declared.NameAnswer.TheVariants.{Named, NoName}
 use Rattle.claim_names.proofs.Head.{HeadTold, head_told}
 use Rattle.reader.specs.declared.PrintRead.{PrintRead}
-use Rattle.reader.specs.declared.ReadAnswer.{ReadAnswer}
-use Rattle.reader.specs.declared.ReadAnswer.TheVariants.{Announcement, Trade, Cancel, Error, Correction, Refused}
+use Rattle.reader.specs.declared.Print.TheVariants.{Announcement, Trade, Cancel, Error, Correction}
 use Rattle.rules.specs.declared.Refusal.TheVariants.{NoPrint}
 use Rattle.reader.specs.Read.{trade_side, trade_head, trade_at, end_at}
 use Rattle.claim_normal.proofs.Views.{printable_as}
@@ -48,13 +42,11 @@ use Rattle.rules.specs.Correction.{repeats_name, correction_text}
 use Rattle.rules.specs.Line.{alike}
 use Rattle.read_name.specs.Head.{again_at}
 use Rattle.read_name.specs.declared.AgainRead.{AgainRead}
-use Rattle.read_name.specs.declared.AgainAnswer.{AgainAnswer}
-use Rattle.read_name.specs.declared.AgainAnswer.TheVariants.{Again, NotAgain}
 use Rattle.text.specs.Reading.{heads}
 use Rattle.name_back.proofs.Back.{name_head}
 use Rattle.text.proofs.Tests.{is_ne}
 use Rattle.text.proofs.Parts.{heads_append}
-use Rattle.text.proofs.Booleans.{nonzero, and_both, false_true}
+use Rattle.text.proofs.Booleans.{and_both, false_true}
 use Rattle.rules.specs.Tape.{is_letter}
 use Rattle.rules.specs.Announcement.{mode_text, level_text}
 use Rattle.rules.specs.Correction.{cancel_opening, error_opening}
@@ -62,12 +54,13 @@ use Rattle.rules.specs.NormalPrint.{NormalPrint, read_announcement, read_cancel,
 use Rattle.rules.specs.declared.Refusal.{Refusal}
 use Rattle.read_announcement.specs.Announced.{Announced, mode, level, announced_length}
 use Rattle.read_announcement.proofs.Sound.{announced_told}
-use Rattle.read_announcement.proofs.Back.{announced_back, announced_some}
+use Rattle.read_announcement.proofs.Back.{announced_back}
 use Rattle.claim_compose.specs.Printable.{by_mode, by_level, by_cancel, by_error, by_correction}
 use Rattle.claim_compose.proofs.Prints.{printable_normal}
 use Rattle.claim_normal.proofs.Normal.{normal_printable}
 use Rattle.reader.specs.Read.{ended_by, cancel_side, cancel_head, cancel_at, amended, corrected_by, second_side, second_head, second_at, correction_side, correction_head, correction_at, announced_by, print_at, read_at}
 use Rattle.reader.specs.Told.{length_of, name_from, name_length, name_in, name_at, fact_in}
+use Rattle.reader.specs.declared.Print.{Print}
 use Rattle.claim_longest.specs.Claim.{Longest}
 use Rattle.claim_longest.proofs.Sound.{trade_printable, cancel_told_lem}
 use Rattle.claim_longest.proofs.CorrectionSound.{correction_told_lem}
@@ -78,9 +71,9 @@ use Rattle.rules.specs.declared.PriceForm.TheVariants.{Full}
 
 -- ---- what an answer tells
 
-data Tells (s : List ℕ) : ReadAnswer → Type 0 where
-  nothing : (r : Refusal) → Tells s (Refused r)
-  something : (r : ReadAnswer) (fact : ReadFact) → fact_in s r ≡ some fact → Printable (take (length_of r) s) (name_in s r) fact → Tells s r
+data Tells (s : List ℕ) : Result Print Refusal → Type 0 where
+  nothing : (r : Refusal) → Tells s (Err r)
+  something : (r : Result Print Refusal) (fact : ReadFact) → fact_in s r ≡ some fact → Printable (take (length_of r) s) (name_in s r) fact → Tells s r
 
 minus_none : (n : ℕ) → n ≡ n - 0
 minus_none n = omega arith
@@ -90,19 +83,19 @@ less n m = omega arith
 
 -- ---- trades
 
-trade_something : (s : List ℕ) (h : NameRead) → HeadTold true s h → (x : SideRead) → side_at Alone h.letters h.a h.b (drop h.used s) ≡ Sided x → Tells s (Trade (record { length = h.used + x.taken.used; from = 0; to = h.length; side = x.taken.side }))
+trade_something : (s : List ℕ) (h : NameRead) → HeadTold true s h → (x : SideRead) → side_at None h.letters h.a h.b (drop h.used s) ≡ Ok x → Tells s (Ok (Trade (record { length = h.used + x.taken.used; from = 0; to = h.length; side = x.taken.side })))
 unfolding fact_in length_of name_in name_length name_from
 trade_something s h k x e = something _ _ refl (printable_as (trade_printable s h k x e) refl (ap (λ n. take n s) (minus_none h.length)) refl)
 
-trade_side_tells : (s : List ℕ) (h : NameRead) → HeadTold true s h → (y : SideAnswer) → side_at Alone h.letters h.a h.b (drop h.used s) ≡ y → Tells s (trade_side h y)
+trade_side_tells : (s : List ℕ) (h : NameRead) → HeadTold true s h → (y : Result SideRead Refusal) → side_at None h.letters h.a h.b (drop h.used s) ≡ y → Tells s (trade_side h y)
 unfolding trade_side
-trade_side_tells s h k (Unsided q) e = nothing NoPrint
-trade_side_tells s h k (Sided x) e = trade_something s h k x e
+trade_side_tells s h k (Err q) e = nothing NoPrint
+trade_side_tells s h k (Ok x) e = trade_something s h k x e
 
-trade_head_tells : (s : List ℕ) (y : NameAnswer) → head_at true s ≡ y → Tells s (trade_head s y)
+trade_head_tells : (s : List ℕ) (y : Option NameRead) → head_at true s ≡ y → Tells s (trade_head s y)
 unfolding trade_head
-trade_head_tells s NoName e = nothing NoPrint
-trade_head_tells s (Named h) e = trade_side_tells s h (head_told true s h e) (side_at Alone h.letters h.a h.b (drop h.used s)) refl
+trade_head_tells s None e = nothing NoPrint
+trade_head_tells s (Some h) e = trade_side_tells s h (head_told true s h e) (side_at None h.letters h.a h.b (drop h.used s)) refl
 
 trade_tells : (s : List ℕ) → Tells s (trade_at s)
 unfolding trade_at
@@ -114,22 +107,22 @@ trade_tells s = trade_head_tells s (head_at true s) refl
 module _ (error : Bool) (opening s : List ℕ) (six : length opening ≡ 6) (opens : starts opening s ≡ true) (kind : Side → ReadFact)
     (by_kind : (network unit : ℕ) (name : List ℕ) (x : Side) → Enterable network unit name → Showable network x → Printable (cancel_text opening (name_text false name) network unit Full true x) (name_text false name) (kind x))
     (told : (x : PrintRead) → Printable (take x.length s) (take (x.to - x.from) (drop x.from s)) (kind x.side) → Tells s (amended error x)) where
-  cancel_something : (h : NameRead) → HeadTold false (drop 6 s) h → (x : SideRead) → side_at Alone h.letters h.a h.b (drop (6 + h.used) s) ≡ Sided x → (m : ℕ) → end_at s (6 + h.used + x.taken.used) x.taken.side ≡ m → (b : Bool) → eqb m 0 ≡ b → Tells s (pick b (Refused NoPrint) (amended error (record { length = m; from = 6; to = 6 + h.length; side = x.taken.side })))
-  unfolding pick
-  cancel_something h k x e m f true z = nothing NoPrint
-  cancel_something h k x e m f false z =
-      let t = cancel_told_lem opening s six opens h k x e m f (nonzero m (eqb-false m 0 z)) in
+  cancel_something : (h : NameRead) → HeadTold false (drop 6 s) h → (x : SideRead) → side_at None h.letters h.a h.b (drop (6 + h.used) s) ≡ Ok x → (end : Option ℕ) → end_at s (6 + h.used + x.taken.used) x.taken.side ≡ end → Tells s (ended_by error h x.taken.side end)
+  unfolding ended_by
+  cancel_something h k x e None f = nothing NoPrint
+  cancel_something h k x e (Some m) f =
+      let t = cancel_told_lem opening s six opens h k x e m f in
       told _ (printable_as (by_kind t.network t.unit t.name x.taken.side t.enters t.shows) t.text (t.named ∙ ap (λ n. take n (drop 6 s)) (sym (less 6 h.length))) refl)
 
-  cancel_side_tells : (h : NameRead) → HeadTold false (drop 6 s) h → (y : SideAnswer) → side_at Alone h.letters h.a h.b (drop (6 + h.used) s) ≡ y → Tells s (cancel_side s error h y)
-  unfolding cancel_side ended_by
-  cancel_side_tells h k (Unsided q) e = nothing NoPrint
-  cancel_side_tells h k (Sided x) e = cancel_something h k x e (end_at s (6 + h.used + x.taken.used) x.taken.side) refl (eqb (end_at s (6 + h.used + x.taken.used) x.taken.side) 0) refl
+  cancel_side_tells : (h : NameRead) → HeadTold false (drop 6 s) h → (y : Result SideRead Refusal) → side_at None h.letters h.a h.b (drop (6 + h.used) s) ≡ y → Tells s (cancel_side s error h y)
+  unfolding cancel_side
+  cancel_side_tells h k (Err q) e = nothing NoPrint
+  cancel_side_tells h k (Ok x) e = cancel_something h k x e (end_at s (6 + h.used + x.taken.used) x.taken.side) refl
 
-  cancel_head_tells : (y : NameAnswer) → head_at false (drop 6 s) ≡ y → Tells s (cancel_head s error y)
+  cancel_head_tells : (y : Option NameRead) → head_at false (drop 6 s) ≡ y → Tells s (cancel_head s error y)
   unfolding cancel_head
-  cancel_head_tells NoName e = nothing NoPrint
-  cancel_head_tells (Named h) e = cancel_side_tells h (head_told false (drop 6 s) h e) (side_at Alone h.letters h.a h.b (drop (6 + h.used) s)) refl
+  cancel_head_tells None e = nothing NoPrint
+  cancel_head_tells (Some h) e = cancel_side_tells h (head_told false (drop 6 s) h e) (side_at None h.letters h.a h.b (drop (6 + h.used) s)) refl
 
   cancel_tells : Tells s (cancel_at s error)
   unfolding cancel_at
@@ -137,62 +130,57 @@ module _ (error : Bool) (opening s : List ℕ) (six : length opening ≡ 6) (ope
 
 told_cancel : (s : List ℕ) (x : PrintRead) → Printable (take x.length s) (take (x.to - x.from) (drop x.from s)) (read_cancel (part_in x.side)) → Tells s (amended false x)
 unfolding amended fact_in length_of name_in name_length name_from
-told_cancel s x p = something (Cancel x) _ refl p
+told_cancel s x p = something (Ok (Cancel x)) _ refl p
 
 told_error : (s : List ℕ) (x : PrintRead) → Printable (take x.length s) (take (x.to - x.from) (drop x.from s)) (read_error (part_in x.side)) → Tells s (amended true x)
 unfolding amended fact_in length_of name_in name_length name_from
-told_error s x p = something (Error x) _ refl p
+told_error s x p = something (Ok (Error x)) _ refl p
 
 -- ---- corrections
 
 module _ (s : List ℕ) (opens : starts (bytes "<<CORR.") s ≡ true) where
-  corrected_tells : (h : NameRead) (x y : Side) (m : ℕ) → (1 ≤ m → Printable (take m s) (take h.length (drop 7 s)) (read_correction (part_in x) (part_in y))) → (b : Bool) → eqb m 0 ≡ b → Tells s (pick b (Refused NoPrint) (Correction (record { length = m; from = 7; to = 7 + h.length; original = x; correcting = y })))
-  unfolding pick fact_in length_of name_in name_length name_from
-  corrected_tells h x y m p true z = nothing NoPrint
-  corrected_tells h x y m p false z = something _ _ refl (printable_as (p (nonzero m (eqb-false m 0 z))) refl (ap (λ n. take n (drop 7 s)) (sym (less 7 h.length))) refl)
+  corrected_tells : (h : NameRead) (x y : Side) (end : Option ℕ) → ((m : ℕ) → end ≡ Some m → Printable (take m s) (take h.length (drop 7 s)) (read_correction (part_in x) (part_in y))) → Tells s (corrected_by h x y end)
+  unfolding corrected_by fact_in length_of name_in name_length name_from
+  corrected_tells h x y None p = nothing NoPrint
+  corrected_tells h x y (Some m) p = something _ _ refl (printable_as (p m refl) refl (ap (λ n. take n (drop 7 s)) (sym (less 7 h.length))) refl)
 
-  module _ (h : NameRead) (k : HeadTold false (drop 7 s) h) (x : SideRead) (e : side_at Alone h.letters h.a h.b (drop (7 + h.used) s) ≡ Sided x) (was : starts (bytes "WAS.") (drop (7 + h.used + x.taken.used) s) ≡ true) where
-    module _ (g : AgainRead) (f : again_at (take h.length (drop 7 s)) (drop (7 + h.used + x.taken.used + 4) s) ≡ Again g) where
-      correction_print_lem : (y : SideRead) → side_at (With x.volume) g.letters x.taken.a x.taken.b (drop (7 + h.used + x.taken.used + 4 + g.used) s) ≡ Sided y → alike (repeats_name y.taken.side.letters) (leb 1 g.used) ≡ true → (m : ℕ) → end_at s (7 + h.used + x.taken.used + 4 + g.used + y.taken.used) y.taken.side ≡ m → 1 ≤ m → Printable (take m s) (take h.length (drop 7 s)) (read_correction (part_in x.taken.side) (part_in y.taken.side))
-      correction_print_lem y d q m z o =
-          let t = correction_told_lem s opens h k x e was g f y d q m z o in
+  module _ (h : NameRead) (k : HeadTold false (drop 7 s) h) (x : SideRead) (e : side_at None h.letters h.a h.b (drop (7 + h.used) s) ≡ Ok x) (was : starts (bytes "WAS.") (drop (7 + h.used + x.taken.used) s) ≡ true) where
+    module _ (g : AgainRead) (f : again_at (take h.length (drop 7 s)) (drop (7 + h.used + x.taken.used + 4) s) ≡ Some g) where
+      correction_print_lem : (y : SideRead) → side_at (Some x.volume) g.letters x.taken.a x.taken.b (drop (7 + h.used + x.taken.used + 4 + g.used) s) ≡ Ok y → alike (repeats_name y.taken.side.letters) (leb 1 g.used) ≡ true → (m : ℕ) → end_at s (7 + h.used + x.taken.used + 4 + g.used + y.taken.used) y.taken.side ≡ Some m → Printable (take m s) (take h.length (drop 7 s)) (read_correction (part_in x.taken.side) (part_in y.taken.side))
+      correction_print_lem y d q m z =
+          let t = correction_told_lem s opens h k x e was g f y d q m z in
           printable_as (by_correction t.on t.trades_in t.entered_name x.taken.side y.taken.side t.enters t.shows_original t.shows_correcting) t.text t.named refl
 
-      duly_by : (y : SideRead) → side_at (With x.volume) g.letters x.taken.a x.taken.b (drop (7 + h.used + x.taken.used + 4 + g.used) s) ≡ Sided y → (b : Bool) → alike (repeats_name y.taken.side.letters) (leb 1 g.used) ≡ b → (m : ℕ) → end_at s (7 + h.used + x.taken.used + 4 + g.used + y.taken.used) y.taken.side ≡ m
-          → Tells s (pick b (pick (eqb m 0) (Refused NoPrint) (Correction (record { length = m; from = 7; to = 7 + h.length; original = x.taken.side; correcting = y.taken.side }))) (Refused NoPrint))
+      duly_tells : (y : SideRead) → side_at (Some x.volume) g.letters x.taken.a x.taken.b (drop (7 + h.used + x.taken.used + 4 + g.used) s) ≡ Ok y → (b : Bool) → alike (repeats_name y.taken.side.letters) (leb 1 g.used) ≡ b → Tells s (pick b (corrected_by h x.taken.side y.taken.side (end_at s (7 + h.used + x.taken.used + 4 + g.used + y.taken.used) y.taken.side)) (Err NoPrint))
       unfolding pick
-      duly_by y d true q m z = corrected_tells h x.taken.side y.taken.side m (λ o. correction_print_lem y d q m z o) (eqb m 0) refl
-      duly_by y d false q m z = nothing NoPrint
+      duly_tells y d true q = corrected_tells h x.taken.side y.taken.side (end_at s (7 + h.used + x.taken.used + 4 + g.used + y.taken.used) y.taken.side) (λ m z. correction_print_lem y d q m z)
+      duly_tells y d false q = nothing NoPrint
 
-      duly_tells : (y : SideRead) → side_at (With x.volume) g.letters x.taken.a x.taken.b (drop (7 + h.used + x.taken.used + 4 + g.used) s) ≡ Sided y → (b : Bool) → alike (repeats_name y.taken.side.letters) (leb 1 g.used) ≡ b → Tells s (pick b (corrected_by h x.taken.side y.taken.side (end_at s (7 + h.used + x.taken.used + 4 + g.used + y.taken.used) y.taken.side)) (Refused NoPrint))
-      unfolding corrected_by
-      duly_tells y d b q = duly_by y d b q (end_at s (7 + h.used + x.taken.used + 4 + g.used + y.taken.used) y.taken.side) refl
-
-      second_side_tells : (y : SideAnswer) → side_at (With x.volume) g.letters x.taken.a x.taken.b (drop (7 + h.used + x.taken.used + 4 + g.used) s) ≡ y → Tells s (second_side s h x.taken.side (7 + h.used + x.taken.used + 4 + g.used) g.used y)
+      second_side_tells : (y : Result SideRead Refusal) → side_at (Some x.volume) g.letters x.taken.a x.taken.b (drop (7 + h.used + x.taken.used + 4 + g.used) s) ≡ y → Tells s (second_side s h x.taken.side (7 + h.used + x.taken.used + 4 + g.used) g.used y)
       unfolding second_side
-      second_side_tells (Unsided q) d = nothing NoPrint
-      second_side_tells (Sided y) d = duly_tells y d (alike (repeats_name y.taken.side.letters) (leb 1 g.used)) refl
+      second_side_tells (Err q) d = nothing NoPrint
+      second_side_tells (Ok y) d = duly_tells y d (alike (repeats_name y.taken.side.letters) (leb 1 g.used)) refl
 
-    second_head_tells : (y : AgainAnswer) → again_at (take h.length (drop 7 s)) (drop (7 + h.used + x.taken.used + 4) s) ≡ y → Tells s (second_head s h x (7 + h.used + x.taken.used + 4) y)
+    second_head_tells : (y : Option AgainRead) → again_at (take h.length (drop 7 s)) (drop (7 + h.used + x.taken.used + 4) s) ≡ y → Tells s (second_head s h x (7 + h.used + x.taken.used + 4) y)
     unfolding second_head
-    second_head_tells NotAgain f = nothing NoPrint
-    second_head_tells (Again g) f = second_side_tells g f (side_at (With x.volume) g.letters x.taken.a x.taken.b (drop (7 + h.used + x.taken.used + 4 + g.used) s)) refl
+    second_head_tells None f = nothing NoPrint
+    second_head_tells (Some g) f = second_side_tells g f (side_at (Some x.volume) g.letters x.taken.a x.taken.b (drop (7 + h.used + x.taken.used + 4 + g.used) s)) refl
 
-  second_tells : (h : NameRead) → HeadTold false (drop 7 s) h → (x : SideRead) → side_at Alone h.letters h.a h.b (drop (7 + h.used) s) ≡ Sided x → (b : Bool) → starts (bytes "WAS.") (drop (7 + h.used + x.taken.used) s) ≡ b
-      → Tells s (pick b (second_head s h x (7 + h.used + x.taken.used + 4) (again_at (take h.length (drop 7 s)) (drop (7 + h.used + x.taken.used + 4) s))) (Refused NoPrint))
+  second_tells : (h : NameRead) → HeadTold false (drop 7 s) h → (x : SideRead) → side_at None h.letters h.a h.b (drop (7 + h.used) s) ≡ Ok x → (b : Bool) → starts (bytes "WAS.") (drop (7 + h.used + x.taken.used) s) ≡ b
+      → Tells s (pick b (second_head s h x (7 + h.used + x.taken.used + 4) (again_at (take h.length (drop 7 s)) (drop (7 + h.used + x.taken.used + 4) s))) (Err NoPrint))
   unfolding pick
   second_tells h k x e true w = second_head_tells h k x e w (again_at (take h.length (drop 7 s)) (drop (7 + h.used + x.taken.used + 4) s)) refl
   second_tells h k x e false w = nothing NoPrint
 
-  correction_side_tells : (h : NameRead) → HeadTold false (drop 7 s) h → (y : SideAnswer) → side_at Alone h.letters h.a h.b (drop (7 + h.used) s) ≡ y → Tells s (correction_side s h y)
+  correction_side_tells : (h : NameRead) → HeadTold false (drop 7 s) h → (y : Result SideRead Refusal) → side_at None h.letters h.a h.b (drop (7 + h.used) s) ≡ y → Tells s (correction_side s h y)
   unfolding correction_side second_at
-  correction_side_tells h k (Unsided q) e = nothing NoPrint
-  correction_side_tells h k (Sided x) e = second_tells h k x e (starts (bytes "WAS.") (drop (7 + h.used + x.taken.used) s)) refl
+  correction_side_tells h k (Err q) e = nothing NoPrint
+  correction_side_tells h k (Ok x) e = second_tells h k x e (starts (bytes "WAS.") (drop (7 + h.used + x.taken.used) s)) refl
 
-  correction_head_tells : (y : NameAnswer) → head_at false (drop 7 s) ≡ y → Tells s (correction_head s y)
+  correction_head_tells : (y : Option NameRead) → head_at false (drop 7 s) ≡ y → Tells s (correction_head s y)
   unfolding correction_head
-  correction_head_tells NoName e = nothing NoPrint
-  correction_head_tells (Named h) e = correction_side_tells h (head_told false (drop 7 s) h e) (side_at Alone h.letters h.a h.b (drop (7 + h.used) s)) refl
+  correction_head_tells None e = nothing NoPrint
+  correction_head_tells (Some h) e = correction_side_tells h (head_told false (drop 7 s) h e) (side_at None h.letters h.a h.b (drop (7 + h.used) s)) refl
 
   correction_tells : Tells s (correction_at s)
   unfolding correction_at
@@ -205,14 +193,13 @@ unfolding between
 announced_printable s n (mode m k l u e) = printable_as (by_mode m k (and_both (sym (is_le 1 k l)) (sym (is_le k 100 u)))) (sym e) refl (ap read_announcement (sym e))
 announced_printable s n (level k l u e) = printable_as (by_level k (and_both (sym (is_le 5000 k l)) (sym (is_le k 100000 u)))) (sym e) refl (ap read_announcement (sym e))
 
-announcement_by : (s : List ℕ) (n : ℕ) → n ≡ announced_length s → (b : Bool) → eqb n 0 ≡ b → Tells s (pick b (Refused NoPrint) (Announcement n))
-unfolding pick fact_in length_of name_in name_length name_from
-announcement_by s n e true z = nothing NoPrint
-announcement_by s n e false z = something _ _ refl (announced_printable s n (announced_told s n e (nonzero n (eqb-false n 0 z))))
+announcement_by : (s : List ℕ) (r : Option ℕ) → announced_length s ≡ r → Tells s (announced_by r)
+unfolding announced_by fact_in length_of name_in name_length name_from
+announcement_by s None e = nothing NoPrint
+announcement_by s (Some n) e = something _ _ refl (announced_printable s n (announced_told s n e))
 
 announcement_tells : (s : List ℕ) → Tells s (announced_by (announced_length s))
-unfolding announced_by
-announcement_tells s = announcement_by s (announced_length s) refl (eqb (announced_length s) 0) refl
+announcement_tells s = announcement_by s (announced_length s) refl
 
 -- ---- any print
 
@@ -263,10 +250,8 @@ not_mark p [] h = refl
 not_mark p (c ∷ s) h = ap (λ b. b && starts p s) (letter_unlike 60 c h mark_no_letter)
 
 announced_length_lem : (t R : List ℕ) → Announced t → starts (bytes "<<<") (t ++ R) ≡ true → length t ≤ length_of (print_at (t ++ R))
-unfolding announced_by pick length_of
-announced_length_lem t R a s =
-    let z : eqb (length t) 0 ≡ false = sym (is_ne (length t) 0 (λ e. omega (e, announced_some t a, arith))) in
-    rw (first_announced (t ++ R) s, announced_back t R a, z) (omega arith)
+unfolding announced_by length_of
+announced_length_lem t R a s = rw (first_announced (t ++ R) s, announced_back t R a) (omega arith)
 
 front_first : (n a v p t r : List ℕ) → ((n ++ a) ++ v ++ p ++ t) ++ r ≡ n ++ (a ++ (v ++ (p ++ (t ++ r))))
 front_first n a v p t r = simp append_assoc
@@ -322,7 +307,7 @@ print_reaches (by_cancel network unit name x e h) R = cancel_reached network uni
 print_reaches (by_error network unit name x e h) R = error_reached network unit name e x h R
 print_reaches (by_correction network unit name x y e h i) R = correction_reached network unit name e x y h i R
 
-has_fact : Option ReadFact → Bool
+has_fact : Maybe ReadFact → Bool
 has_fact (some f) = true
 has_fact none = false
 
@@ -330,7 +315,7 @@ pub no_fact : (f : ReadFact) → none ≡ some f → ⊥
 unfolding has_fact
 no_fact f e = false_true (ap has_fact e)
 
-the_fact : Option ReadFact → ReadFact
+the_fact : Maybe ReadFact → ReadFact
 the_fact (some f) = f
 the_fact none = read_announcement []
 
@@ -339,18 +324,18 @@ unfolding the_fact
 some_same_fact e = ap the_fact e
 
 -- no facts, no length
-pub no_length : (s : List ℕ) (r : ReadAnswer) → fact_in s r ≡ none → length_of r ≡ 0
+pub no_length : (s : List ℕ) (r : Result Print Refusal) → fact_in s r ≡ none → length_of r ≡ 0
 unfolding fact_in length_of
-no_length s (Announcement n) e = absurd (no_fact _ (sym e))
-no_length s (Trade x) e = absurd (no_fact _ (sym e))
-no_length s (Cancel x) e = absurd (no_fact _ (sym e))
-no_length s (Error x) e = absurd (no_fact _ (sym e))
-no_length s (Correction x) e = absurd (no_fact _ (sym e))
-no_length s (Refused r) e = refl
+no_length s (Ok (Announcement n)) e = absurd (no_fact _ (sym e))
+no_length s (Ok (Trade x)) e = absurd (no_fact _ (sym e))
+no_length s (Ok (Cancel x)) e = absurd (no_fact _ (sym e))
+no_length s (Ok (Error x)) e = absurd (no_fact _ (sym e))
+no_length s (Ok (Correction x)) e = absurd (no_fact _ (sym e))
+no_length s (Err r) e = refl
 
-told_normal : (s : List ℕ) (r : ReadAnswer) → Tells s r → (fact : ReadFact) → fact_in s r ≡ some fact → NormalPrint (take (length_of r) s) (name_in s r) fact
+told_normal : (s : List ℕ) (r : Result Print Refusal) → Tells s r → (fact : ReadFact) → fact_in s r ≡ some fact → NormalPrint (take (length_of r) s) (name_in s r) fact
 unfolding fact_in
-told_normal s (Refused q) (nothing _) fact e = absurd (no_fact fact e)
+told_normal s (Err q) (nothing _) fact e = absurd (no_fact fact e)
 told_normal s r (something _ f g p) fact e = subst (NormalPrint (take (length_of r) s) (name_in s r)) (some_same_fact (sym g ∙ e)) (printable_normal p)
 
 reaches : (s text name rest : List ℕ) (fact : ReadFact) → NormalPrint text name fact → s ≡ text ++ rest → length text ≤ length_of (print_at s)

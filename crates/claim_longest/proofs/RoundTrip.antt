@@ -6,11 +6,13 @@ use mathlib.Core.List.{List, [], ◌++◌}
 use mathlib.Core.Option.{Option, none, some}
 use lib.ListN.{length, take, drop, take-append-drop}
 use lib.Seq.{take_at, length-take-le}
+use Rattle.std.specs.Prelude.{Result}
 use Rattle.rules.specs.NormalPrint.{ReadFact, NormalPrint}
-use Rattle.reader.specs.declared.ReadAnswer.{ReadAnswer}
+use Rattle.rules.specs.declared.Refusal.{Refusal}
 use Rattle.reader.specs.Read.{read_at}
 use Rattle.reader.specs.Told.{length_of, name_at, fact_in}
 use Rattle.reader.proofs.Bounds.{print_within}
+use Rattle.reader.specs.declared.Print.{Print}
 use Rattle.claim_decoder.proofs.Fresh.{Fresh, fresh_end}
 use Rattle.claim_longest.specs.Back.{Back}
 use Rattle.claim_longest.proofs.Longest.{longest_print_lem}
@@ -21,7 +23,7 @@ module _ (text name : List ℕ) (fact : ReadFact) (p : NormalPrint text name fac
   abbrev tape : List ℕ
   tape = text ++ rest
 
-  abbrev answer : ReadAnswer
+  abbrev answer : Result Print Refusal
   answer = read_at tape 0
 
   within : length_of answer ≤ length tape

@@ -6,6 +6,7 @@ use mathlib.Core.Logic.{⊎_elim}
 use mathlib.Core.Bool.{Bool, true, false, ◌&&◌, ◌||◌, not}
 use mathlib.Core.List.{List}
 use lib.Dec.{eqb, leb}
+use Rattle.std.specs.Prelude.{Option}
 use Rattle.text.specs.Pick.{pick, among}
 use Rattle.text.proofs.Tests.{is_lt, is_le}
 use Rattle.rules.specs.Columns.{between}
@@ -19,8 +20,8 @@ use Rattle.name_back.specs.Cut.{one_sold}
 use Rattle.line_owed.specs.Shown.{letter_count, one_delivery, showable, Showable}
 use Rattle.read_volume.specs.Volume.{shares_in}
 use Rattle.read_volume.proofs.Shown.{explained_some, shares_small}
+use Rattle.read_volume.specs.declared.Volume.{Volume}
 use Rattle.read_conditions.proofs.Lawful.{letter_count as tails·letterCount}
-use Rattle.read_side.specs.declared.Beside.{Beside}
 use Rattle.read_side.specs.declared.SideRead.{SideRead}
 use Rattle.read_side.specs.Side.{beside}
 use Rattle.claim_longest.proofs.Side.{Unit, days_here, number_here, decimals_here, Headed, SideTold, same_bit}
@@ -59,7 +60,7 @@ or_last : (g : Bool) → (not g || true) ≡ true
 or_last true = refl
 or_last false = refl
 
-module _ (first : Beside) (letters : Letters) (a b : Bool) (part : List ℕ) (x : SideRead) (h : Headed letters) (t : SideTold first letters a b part x) where
+module _ (first : Option Volume) (letters : Letters) (a b : Bool) (part : List ℕ) (x : SideRead) (h : Headed letters) (t : SideTold first letters a b part x) where
   letters_show : showable x.taken.side.letters ≡ true
   unfolding showable one_sold one_delivery
   letters_show =

@@ -7,6 +7,7 @@ use mathlib.Core.Logic.{⊎_elim}
 use mathlib.Core.Bool.{Bool, true, false, ◌&&◌, ◌||◌}
 use mathlib.Core.List.{List, [], ◌∷◌, ◌++◌, append_assoc}
 use lib.ListN.{length, take, drop, length-drop}
+use Rattle.std.specs.Prelude.{Option, Some, None, Result, Ok, Err}
 use Rattle.text.specs.Pick.{pick, among}
 use Rattle.text.proofs.Texts.{and_left, and_right}
 use Rattle.rules.specs.Price.{price_text}
@@ -17,29 +18,23 @@ use Rattle.rules.specs.declared.Side.{Side}
 use Rattle.print_price.specs.Sound.{Sound}
 use Rattle.name_back.specs.Cut.{one_sold}
 use Rattle.read_price.specs.declared.PriceRead.{PriceRead}
-use Rattle.read_price.specs.declared.PriceAnswer.{PriceAnswer}
-use Rattle.read_price.specs.declared.PriceAnswer.TheVariants.{Priced, NoPrice}
 use Rattle.read_volume.specs.declared.Volume.{Volume}
 use Rattle.read_volume.specs.declared.Volume.TheVariants.{Unsaid}
-use Rattle.read_volume.specs.declared.VolumeAnswer.{VolumeAnswer}
-use Rattle.read_volume.specs.declared.VolumeAnswer.TheVariants.{Said, NoVolume}
 use Rattle.read_price.specs.Price.{price_at}
 use Rattle.read_volume.specs.Volume.{volume_at, shares_in, figures_of, said_text, explains, explains_both, explained}
 use Rattle.read_price.proofs.Text.{price_found}
 use Rattle.read_volume.proofs.Shown.{volume_found}
+use Rattle.read_volume.specs.declared.VolumeRead.{VolumeRead}
 use Rattle.read_name.specs.Head.{letters_after}
 use Rattle.read_conditions.specs.declared.Taken.{Taken}
 use Rattle.read_conditions.specs.Tail.{plus_cash, plus_average, plus_stopped, plus_seller, plus_rule, plus_previous, side_with as tails·sideWith, cash_at, average_at, seller_at, rule_at, after_price_at, at_end_at, tail_at}
 use Rattle.read_conditions.proofs.Standing.{cash_keeps, average_keeps, stopped_keeps, seller_keeps, rule_keeps, Bare, tail_text_lem, tail_from, tail_within}
 use Rattle.read_conditions.proofs.Lawful.{one as tails·one, letter_count as tails·letterCount, Lawful, bare_lawful, tail_lawful}
 use Rattle.read_conditions.proofs.Kept.{previous_keeps, tail_explained, tail_volume, tail_price, tail_o, tail_s, tail_l, tail_n, tail_m, tail_c}
-use Rattle.read_side.specs.declared.Beside.{Beside}
 use Rattle.read_side.specs.declared.SideRead.{SideRead}
-use Rattle.read_side.specs.declared.SideAnswer.{SideAnswer}
 use Rattle.rules.specs.declared.Refusal.{Refusal}
 use Rattle.rules.specs.declared.Refusal.TheVariants.{NoPrint}
 use Rattle.text.proofs.Booleans.{false_true, or_cases}
-use Rattle.read_side.specs.declared.SideAnswer.TheVariants.{Sided, Refused as Unsided}
 use Rattle.read_side.specs.Side.{head_count, beside, sided_by, side_with, said_side, or_else, side_at}
 use Rattle.rules.specs.declared.PriceForm.TheVariants.{Full}
 
@@ -157,7 +152,7 @@ unfolding head_count tails·letterCount
 head_all x h = rw (h.no_n, h.bare.no_c, h.bare.no_k, h.bare.no_b, h.bare.no_t, h.bare.no_r, h.bare.no_j, h.bare.no_g) (all_same x.o x.s x.l x.m)
 
 -- what a side that is read tells
-pub record SideTold (first : Beside) (letters : Letters) (a b : Bool) (part : List ℕ) (x : SideRead) : Type 0 where
+pub record SideTold (first : Option Volume) (letters : Letters) (a b : Bool) (part : List ℕ) (x : SideRead) : Type 0 where
   pub within : x.taken.used ≤ length part
   pub shares : x.taken.side.volume ≡ shares_in x.volume
   pub small : figures_of x.volume < 1000000000
@@ -185,20 +180,20 @@ take_none (suc n) = refl
 more : (m n : ℕ) → suc m + n ≡ suc (m + n)
 more m n = omega arith
 
-is_side : SideAnswer → Bool
-is_side (Sided x) = true
-is_side (Unsided q) = false
+is_side : Result SideRead Refusal → Bool
+is_side (Ok x) = true
+is_side (Err q) = false
 
-pub no_side : {q : Refusal} (x : SideRead) → Unsided q ≡ Sided x → ⊥
+pub no_side : {q : Refusal} (x : SideRead) → Err q ≡ Ok x → ⊥
 unfolding is_side
 no_side x e = false_true (ap is_side e)
 
 abbrev pub any_side : SideRead
 any_side = record { volume = Unsaid; taken = record { side = record { volume = 0; price = record { n = 0; d = 0 }; letters = letters_after false false false false; days = 0; previous = record { n = 0; d = 0 } }; used = 0; count = 0; a = false; b = false } }
 
-unfoldable pub side_in : SideAnswer → SideRead
-side_in (Sided x) = x
-side_in (Unsided q) = any_side
+unfoldable pub side_in : Result SideRead Refusal → SideRead
+side_in (Ok x) = x
+side_in (Err q) = any_side
 
 -- a front of a list in two steps
 pub two_fronts : (s : List ℕ) (m n : ℕ) → take (m + n) s ≡ take m s ++ take n (drop m s)
@@ -211,14 +206,14 @@ whole part v p tail used more end e f g l =
     let k : end ≡ used + more + (end - (used + more)) = omega (l, arith) in
     ap (λ n. take n part) k ∙ two_fronts part (used + more) (end - (used + more)) ∙ ap (λ z. z ++ take (end - (used + more)) (drop (used + more) part)) (two_fronts part used more ∙ ap (λ z. z ++ take more (drop used part)) e ∙ ap (λ z. v ++ z) f) ∙ ap (λ z. (v ++ p) ++ z) g ∙ append_assoc v p tail
 
-module _ (first : Beside) (letters : Letters) (a b : Bool) (part : List ℕ) (h : Headed letters) (v : Volume) (used : ℕ) (w : used ≤ length part) (t : take used part ≡ said_text v) (f : figures_of v < 1000000000) where
+module _ (first : Option Volume) (letters : Letters) (a b : Bool) (part : List ℕ) (h : Headed letters) (v : Volume) (used : ℕ) (w : used ≤ length part) (t : take used part ≡ said_text v) (f : figures_of v < 1000000000) where
   yes_a : Bool
   yes_a = a && explained 65 (beside first v) v
 
   yes_b : Bool
   yes_b = b && explained 66 (beside first v) v
 
-  told_priced : (p : PriceRead) → price_at (drop used part) ≡ Priced p → (yes_a || yes_b) ≡ true → SideTold first letters a b part (record { volume = v; taken = tail_at part (beginning letters v used yes_a yes_b p) })
+  told_priced : (p : PriceRead) → price_at (drop used part) ≡ Some p → (yes_a || yes_b) ≡ true → SideTold first letters a b part (record { volume = v; taken = tail_at part (beginning letters v used yes_a yes_b p) })
   unfolding yes_a yes_b days_here number_here decimals_here pick
   told_priced p e o =
       let st = beginning letters v used (a && explained 65 (beside first v) v) (b && explained 66 (beside first v) v) p in
@@ -249,36 +244,36 @@ module _ (first : Beside) (letters : Letters) (a b : Bool) (part : List ℕ) (h 
         text = whole part (said_text v) (price_text Full (tail_at part st).side.price) (tail_text (tail_at part st).side) used p.used (tail_at part st).used t (q.text ∙ ap (price_text Full) (sym (tail_price part st))) (tail_text_lem part st h.bare n) r;
       }
 
-  told_by : (y : PriceAnswer) → price_at (drop used part) ≡ y → (yes_a || yes_b) ≡ true → (x : SideRead) → sided_by part letters v used yes_a yes_b y ≡ Sided x → SideTold first letters a b part x
+  told_by : (y : Option PriceRead) → price_at (drop used part) ≡ y → (yes_a || yes_b) ≡ true → (x : SideRead) → sided_by part letters v used yes_a yes_b y ≡ Ok x → SideTold first letters a b part x
   unfolding sided_by side_in
-  told_by NoPrice e o x k = absurd (no_side x k)
-  told_by (Priced p) e o x k = subst (SideTold first letters a b part) (ap side_in k) (told_priced p e o)
+  told_by None e o x k = absurd (no_side x k)
+  told_by (Some p) e o x k = subst (SideTold first letters a b part) (ap side_in k) (told_priced p e o)
 
-  told_pick : (t : Bool) → (yes_a || yes_b) ≡ t → (x : SideRead) → pick t (sided_by part letters v used yes_a yes_b (price_at (drop used part))) (Unsided NoPrint) ≡ Sided x → SideTold first letters a b part x
+  told_pick : (t : Bool) → (yes_a || yes_b) ≡ t → (x : SideRead) → pick t (sided_by part letters v used yes_a yes_b (price_at (drop used part))) (Err NoPrint) ≡ Ok x → SideTold first letters a b part x
   unfolding pick
   told_pick true o x k = told_by (price_at (drop used part)) refl o x k
   told_pick false o x k = absurd (no_side x k)
 
-  with_told : (x : SideRead) → side_with first letters a b part v used ≡ Sided x → SideTold first letters a b part x
+  with_told : (x : SideRead) → side_with first letters a b part v used ≡ Ok x → SideTold first letters a b part x
   unfolding side_with yes_a yes_b
   with_told x k = told_pick (yes_a || yes_b) refl x k
 
-module _ (first : Beside) (letters : Letters) (a b : Bool) (part : List ℕ) (h : Headed letters) where
-  unsaid_told : (x : SideRead) → side_with first letters a b part Unsaid 0 ≡ Sided x → SideTold first letters a b part x
+module _ (first : Option Volume) (letters : Letters) (a b : Bool) (part : List ℕ) (h : Headed letters) where
+  unsaid_told : (x : SideRead) → side_with first letters a b part Unsaid 0 ≡ Ok x → SideTold first letters a b part x
   unfolding said_text figures_of
   unsaid_told x k = with_told first letters a b part h Unsaid 0 (omega arith) refl (omega arith) x k
 
-  said_told : (y : VolumeAnswer) → volume_at part ≡ y → (x : SideRead) → said_side first letters a b part y ≡ Sided x → SideTold first letters a b part x
+  said_told : (y : Option VolumeRead) → volume_at part ≡ y → (x : SideRead) → said_side first letters a b part y ≡ Ok x → SideTold first letters a b part x
   unfolding said_side
-  said_told NoVolume e x k = absurd (no_side x k)
-  said_told (Said v) e x k = let f = volume_found part v e in with_told first letters a b part h v.volume v.used f.within f.text f.small x k
+  said_told None e x k = absurd (no_side x k)
+  said_told (Some v) e x k = let f = volume_found part v e in with_told first letters a b part h v.volume v.used f.within f.text f.small x k
 
-  either_told : (y : SideAnswer) → said_side first letters a b part (volume_at part) ≡ y → (x : SideRead) → or_else y (side_with first letters a b part Unsaid 0) ≡ Sided x → SideTold first letters a b part x
+  either_told : (y : Result SideRead Refusal) → said_side first letters a b part (volume_at part) ≡ y → (x : SideRead) → or_else y (side_with first letters a b part Unsaid 0) ≡ Ok x → SideTold first letters a b part x
   unfolding or_else side_in
-  either_told (Unsided q) e x k = unsaid_told x k
-  either_told (Sided z) e x k = said_told (volume_at part) refl x (e ∙ k)
+  either_told (Err q) e x k = unsaid_told x k
+  either_told (Ok z) e x k = said_told (volume_at part) refl x (e ∙ k)
 
   -- WHAT IS READ STANDS THERE
-  pub side_told : (x : SideRead) → side_at first letters a b part ≡ Sided x → SideTold first letters a b part x
+  pub side_told : (x : SideRead) → side_at first letters a b part ≡ Ok x → SideTold first letters a b part x
   unfolding side_at
   side_told x k = either_told (said_side first letters a b part (volume_at part)) refl x k

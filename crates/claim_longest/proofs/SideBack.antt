@@ -8,6 +8,7 @@ use mathlib.Core.List.{List, [], ◌∷◌, ◌++◌, append_assoc}
 use lib.Dec.{eqb, leb}
 use lib.ListN.{length, drop, length-append}
 use lib.Seq.{drop-drop, drop-append_seam}
+use Rattle.std.specs.Prelude.{Option, Some, None, Result, Ok, Err}
 use Rattle.text.specs.Bytes.{bytes}
 use Rattle.text.specs.Pick.{pick, opt, among}
 use Rattle.text.proofs.Texts.{and_left, and_right}
@@ -25,24 +26,16 @@ use Rattle.name_back.specs.Cut.{one_sold}
 use Rattle.line_owed.specs.Shown.{letter_count, one_delivery, showable, Showable}
 use Rattle.line_owed.proofs.Shown.{some_price, sound_price, shown_previous}
 use Rattle.read_price.specs.declared.PriceRead.{PriceRead}
-use Rattle.read_price.specs.declared.PriceAnswer.{PriceAnswer}
-use Rattle.read_price.specs.declared.PriceAnswer.TheVariants.{Priced, NoPrice}
 use Rattle.read_volume.specs.declared.Volume.{Volume}
 use Rattle.read_volume.specs.declared.Volume.TheVariants.{Unsaid}
 use Rattle.read_volume.specs.declared.VolumeRead.{VolumeRead}
-use Rattle.read_volume.specs.declared.VolumeAnswer.{VolumeAnswer}
-use Rattle.read_volume.specs.declared.VolumeAnswer.TheVariants.{Said, NoVolume}
 use Rattle.read_price.specs.Price.{price_at}
 use Rattle.read_volume.specs.Volume.{volume_at, explains, explains_both, explained}
 use Rattle.read_name.specs.Head.{letters_after}
 use Rattle.read_conditions.specs.declared.Taken.{Taken}
 use Rattle.read_conditions.specs.Tail.{tail_at}
-use Rattle.read_side.specs.declared.Beside.{Beside}
-use Rattle.read_side.specs.declared.Beside.TheVariants.{Alone}
 use Rattle.read_side.specs.declared.SideRead.{SideRead}
-use Rattle.read_side.specs.declared.SideAnswer.{SideAnswer}
 use Rattle.rules.specs.declared.Refusal.TheVariants.{NoPrint}
-use Rattle.read_side.specs.declared.SideAnswer.TheVariants.{Sided, Refused as Unsided}
 use Rattle.read_side.specs.Side.{head_count, beside, sided_by, side_with, said_side, or_else, side_at}
 use borrow.Author.Tests.{eqb-true, leb-true, not-true}
 use Rattle.text.specs.Reading.{heads, is_digit, dot_digit}
@@ -56,6 +49,7 @@ use Rattle.claim_longest.proofs.Side.{beginning, side_in, no_side}
 use Rattle.claim_longest.proofs.Tail.{tail_forward, from_average, size_average, May, covers_tail}
 use Rattle.claim_longest.proofs.Figures.{volume_beyond}
 use Rattle.rules.specs.declared.PriceForm.TheVariants.{Full}
+use Rattle.rules.specs.declared.Refusal.{Refusal}
 
 -- ---- one unit explains and_both
 
@@ -278,15 +272,15 @@ unfolding flag_of
 one_flag network a b h = one_picked (eqb network 65) a b h
 
 -- the same beside another volume
-with_65 : (first : Beside) (network : ℕ) → network ≡ 65 → (a b : Bool) (v : Volume) → flag_of network a b ≡ true → explained network (beside first v) v ≡ true → flag_of network (a && explained 65 (beside first v) v) (b && explained 66 (beside first v) v) ≡ true
+with_65 : (first : Option Volume) (network : ℕ) → network ≡ 65 → (a b : Bool) (v : Volume) → flag_of network a b ≡ true → explained network (beside first v) v ≡ true → flag_of network (a && explained 65 (beside first v) v) (b && explained 66 (beside first v) v) ≡ true
 unfolding flag_of pick
 with_65 first network q a b v f e = ap (λ n. pick (eqb n 65) (a && explained 65 (beside first v) v) (b && explained 66 (beside first v) v)) q ∙ and_both (ap (λ n. pick (eqb n 65) a b) (sym q) ∙ f) (ap (λ n. explained n (beside first v) v) (sym q) ∙ e)
 
-with_66 : (first : Beside) (network : ℕ) → network ≡ 66 → (a b : Bool) (v : Volume) → flag_of network a b ≡ true → explained network (beside first v) v ≡ true → flag_of network (a && explained 65 (beside first v) v) (b && explained 66 (beside first v) v) ≡ true
+with_66 : (first : Option Volume) (network : ℕ) → network ≡ 66 → (a b : Bool) (v : Volume) → flag_of network a b ≡ true → explained network (beside first v) v ≡ true → flag_of network (a && explained 65 (beside first v) v) (b && explained 66 (beside first v) v) ≡ true
 unfolding flag_of pick
 with_66 first network q a b v f e = ap (λ n. pick (eqb n 65) (a && explained 65 (beside first v) v) (b && explained 66 (beside first v) v)) q ∙ and_both (ap (λ n. pick (eqb n 65) a b) (sym q) ∙ f) (ap (λ n. explained n (beside first v) v) (sym q) ∙ e)
 
-pub still_with : (first : Beside) (network : ℕ) (a b : Bool) (v : Volume) → is_network network ≡ true → flag_of network a b ≡ true → explained network (beside first v) v ≡ true → flag_of network (a && explained 65 (beside first v) v) (b && explained 66 (beside first v) v) ≡ true
+pub still_with : (first : Option Volume) (network : ℕ) (a b : Bool) (v : Volume) → is_network network ≡ true → flag_of network a b ≡ true → explained network (beside first v) v ≡ true → flag_of network (a && explained 65 (beside first v) v) (b && explained 66 (beside first v) v) ≡ true
 unfolding is_network among
 still_with first network a b v n f e =
     ⊎_elim (λ q. with_65 first network (eqb-true network 65 q) a b v f e)
@@ -295,38 +289,38 @@ still_with first network a b v n f e =
 
 -- ---- a side is read
 
-pub record Reaches (answer : SideAnswer) (n : ℕ) : Type 0 where
+pub record Reaches (answer : Result SideRead Refusal) (n : ℕ) : Type 0 where
   pub got : SideRead
-  pub is : answer ≡ Sided got
+  pub is : answer ≡ Ok got
   pub far : n ≤ got.taken.used
 
 pub some_not_none : (c : ℕ) (s : List ℕ) → c ∷ s ≡ [] → ⊥
 some_not_none c s e = omega (ap length e, arith)
 
-by_none : {y : SideAnswer} {n : ℕ} → Reaches y n → Reaches (or_else (Unsided NoPrint) y) n
+by_none : {y : Result SideRead Refusal} {n : ℕ} → Reaches y n → Reaches (or_else (Err NoPrint) y) n
 unfolding or_else
 by_none r = r
 
-by_either : (z y : SideAnswer) (n : ℕ) → Reaches y n → ((g : SideRead) → z ≡ Sided g → n ≤ g.taken.used) → Reaches (or_else z y) n
+by_either : (z y : Result SideRead Refusal) (n : ℕ) → Reaches y n → ((g : SideRead) → z ≡ Ok g → n ≤ g.taken.used) → Reaches (or_else z y) n
 unfolding or_else
-by_either (Sided g) y n r k = record { got = g; is = refl; far = k g refl }
-by_either (Unsided q) y n r k = r
+by_either (Ok g) y n r k = record { got = g; is = refl; far = k g refl }
+by_either (Err q) y n r k = r
 
-said_first : (first : Beside) (letters : Letters) (a b : Bool) (part : List ℕ) (v : VolumeRead) {n : ℕ} → volume_at part ≡ Said v → Reaches (side_with first letters a b part v.volume v.used) n → Reaches (or_else (said_side first letters a b part (volume_at part)) (side_with first letters a b part Unsaid 0)) n
+said_first : (first : Option Volume) (letters : Letters) (a b : Bool) (part : List ℕ) (v : VolumeRead) {n : ℕ} → volume_at part ≡ Some v → Reaches (side_with first letters a b part v.volume v.used) n → Reaches (or_else (said_side first letters a b part (volume_at part)) (side_with first letters a b part Unsaid 0)) n
 unfolding said_side or_else
 said_first first letters a b part v e r = record { got = r.got; is = rw (e, r.is); far = r.far }
 
-forward_by : (part : List ℕ) (letters : Letters) (v : Volume) (used : ℕ) (a b : Bool) (p : PriceAnswer) (y : SideRead) → sided_by part letters v used a b p ≡ Sided y → used ≤ y.taken.used
+forward_by : (part : List ℕ) (letters : Letters) (v : Volume) (used : ℕ) (a b : Bool) (p : Option PriceRead) (y : SideRead) → sided_by part letters v used a b p ≡ Ok y → used ≤ y.taken.used
 unfolding sided_by side_in
-forward_by part letters v used a b NoPrice y e = absurd (no_side y e)
-forward_by part letters v used a b (Priced p) y e = subst (λ z. used ≤ z.taken.used) (ap side_in e) (omega (tail_forward part (beginning letters v used a b p), arith))
+forward_by part letters v used a b None y e = absurd (no_side y e)
+forward_by part letters v used a b (Some p) y e = subst (λ z. used ≤ z.taken.used) (ap side_in e) (omega (tail_forward part (beginning letters v used a b p), arith))
 
-forward_pick : (t : Bool) (part : List ℕ) (letters : Letters) (v : Volume) (used : ℕ) (a b : Bool) (p : PriceAnswer) (y : SideRead) → pick t (sided_by part letters v used a b p) (Unsided NoPrint) ≡ Sided y → used ≤ y.taken.used
+forward_pick : (t : Bool) (part : List ℕ) (letters : Letters) (v : Volume) (used : ℕ) (a b : Bool) (p : Option PriceRead) (y : SideRead) → pick t (sided_by part letters v used a b p) (Err NoPrint) ≡ Ok y → used ≤ y.taken.used
 unfolding pick
 forward_pick true part letters v used a b p y e = forward_by part letters v used a b p y e
 forward_pick false part letters v used a b p y e = absurd (no_side y e)
 
-side_forward : (first : Beside) (letters : Letters) (a b : Bool) (part : List ℕ) (v : Volume) (used : ℕ) (y : SideRead) → side_with first letters a b part v used ≡ Sided y → used ≤ y.taken.used
+side_forward : (first : Option Volume) (letters : Letters) (a b : Bool) (part : List ℕ) (v : Volume) (used : ℕ) (y : SideRead) → side_with first letters a b part v used ≡ Ok y → used ≤ y.taken.used
 unfolding side_with
 side_forward first letters a b part v used y e = forward_pick ((a && explained 65 (beside first v) v) || (b && explained 66 (beside first v) v)) part letters v used (a && explained 65 (beside first v) v) (b && explained 66 (beside first v) v) (price_at (drop used part)) y e
 
@@ -338,7 +332,7 @@ module _ (network unit : ℕ) (x : Side) (h : Showable network x) (u : is_unit u
   price_is = (sound_price x.price h.price_fits, some_price x.price h.price_fits)
 
   -- with the volume v in the first bytes
-  with_reaches : (v : Volume) (used : ℕ) (part R : List ℕ) → explains network unit v ≡ true → drop used part ≡ price_text Full x.price ++ (tail_text x ++ R) → Reaches (side_with Alone letters a b part v used) (used + (length (price_text Full x.price) + length (tail_text x)))
+  with_reaches : (v : Volume) (used : ℕ) (part R : List ℕ) → explains network unit v ≡ true → drop used part ≡ price_text Full x.price ++ (tail_text x ++ R) → Reaches (side_with None letters a b part v used) (used + (length (price_text Full x.price) + length (tail_text x)))
   unfolding side_with beside sided_by pick
   with_reaches v used part R e d =
       let k = price_again x.price price_is.0 price_is.1 (tail_text x ++ R) in
@@ -352,29 +346,29 @@ module _ (network unit : ℕ) (x : Side) (h : Showable network x) (u : is_unit u
         far = covered network x h v used y z g part R k d;
       }
 
-  unsaid_with : (part R : List ℕ) → unit ≡ 100 → part ≡ price_text Full x.price ++ (tail_text x ++ R) → Reaches (side_with Alone letters a b part Unsaid 0) (length (price_text Full x.price) + length (tail_text x))
+  unsaid_with : (part R : List ℕ) → unit ≡ 100 → part ≡ price_text Full x.price ++ (tail_text x ++ R) → Reaches (side_with None letters a b part Unsaid 0) (length (price_text Full x.price) + length (tail_text x))
   unfolding explains
   unsaid_with part R n e =
       let r = with_reaches Unsaid 0 part R (ap (λ k. eqb k 100) n) e in
       record { got = r.got; is = r.is; far = omega (r.far, arith) }
 
   -- without a volume, or with one that stands further on
-  unsaid_reaches : (part R : List ℕ) → unit ≡ 100 → part ≡ price_text Full x.price ++ (tail_text x ++ R) → (y : VolumeAnswer) → volume_at part ≡ y → Reaches (or_else (said_side Alone letters a b part y) (side_with Alone letters a b part Unsaid 0)) (length (price_text Full x.price) + length (tail_text x))
+  unsaid_reaches : (part R : List ℕ) → unit ≡ 100 → part ≡ price_text Full x.price ++ (tail_text x ++ R) → (y : Option VolumeRead) → volume_at part ≡ y → Reaches (or_else (said_side None letters a b part y) (side_with None letters a b part Unsaid 0)) (length (price_text Full x.price) + length (tail_text x))
   unfolding said_side
-  unsaid_reaches part R n e NoVolume k = by_none (unsaid_with part R n e)
-  unsaid_reaches part R n e (Said v) k =
-      by_either (side_with Alone letters a b part v.volume v.used) (side_with Alone letters a b part Unsaid 0) _ (unsaid_with part R n e)
-      (λ y z. omega (volume_beyond x.price x.letters.k x.letters.b x.letters.t x.letters.r x.days x.letters.j x.letters.g x.previous R v (ap volume_at (sym (e ∙ ap (λ t. price_text Full x.price ++ t) (tail_parts x R (shown_c network x h)))) ∙ k), tail_size x (shown_c network x h), side_forward Alone letters a b part v.volume v.used y z, arith))
+  unsaid_reaches part R n e None k = by_none (unsaid_with part R n e)
+  unsaid_reaches part R n e (Some v) k =
+      by_either (side_with None letters a b part v.volume v.used) (side_with None letters a b part Unsaid 0) _ (unsaid_with part R n e)
+      (λ y z. omega (volume_beyond x.price x.letters.k x.letters.b x.letters.t x.letters.r x.days x.letters.j x.letters.g x.previous R v (ap volume_at (sym (e ∙ ap (λ t. price_text Full x.price ++ t) (tail_parts x R (shown_c network x h)))) ∙ k), tail_size x (shown_c network x h), side_forward None letters a b part v.volume v.used y z, arith))
 
-  said_reaches : (R : List ℕ) → VolumeAgain network unit x.volume (price_text Full x.price ++ (tail_text x ++ R)) → Reaches (side_at Alone letters a b (volume_text network unit x.volume ++ (price_text Full x.price ++ (tail_text x ++ R)))) (length (volume_text network unit x.volume) + (length (price_text Full x.price) + length (tail_text x)))
+  said_reaches : (R : List ℕ) → VolumeAgain network unit x.volume (price_text Full x.price ++ (tail_text x ++ R)) → Reaches (side_at None letters a b (volume_text network unit x.volume ++ (price_text Full x.price ++ (tail_text x ++ R)))) (length (volume_text network unit x.volume) + (length (price_text Full x.price) + length (tail_text x)))
   unfolding side_at
   said_reaches R k =
       let shown = volume_text network unit x.volume in
       let rest = price_text Full x.price ++ (tail_text x ++ R) in
       let r = with_reaches k.got.volume k.got.used (shown ++ rest) R k.by_unit (ap (λ n. drop n (shown ++ rest)) k.exact ∙ drop-append_seam shown rest) in
-      said_first Alone letters a b (shown ++ rest) k.got k.read (subst (λ n. Reaches (side_with Alone letters a b (shown ++ rest) k.got.volume k.got.used) (n + (length (price_text Full x.price) + length (tail_text x)))) k.exact r)
+      said_first None letters a b (shown ++ rest) k.got k.read (subst (λ n. Reaches (side_with None letters a b (shown ++ rest) k.got.volume k.got.used) (n + (length (price_text Full x.price) + length (tail_text x)))) k.exact r)
 
-  by_volume : (shown : List ℕ) → volume_text network unit x.volume ≡ shown → (R : List ℕ) → 1 ≤ x.volume → x.volume < 1000000000 → Reaches (side_at Alone letters a b (volume_text network unit x.volume ++ (price_text Full x.price ++ (tail_text x ++ R)))) (length (volume_text network unit x.volume) + (length (price_text Full x.price) + length (tail_text x)))
+  by_volume : (shown : List ℕ) → volume_text network unit x.volume ≡ shown → (R : List ℕ) → 1 ≤ x.volume → x.volume < 1000000000 → Reaches (side_at None letters a b (volume_text network unit x.volume ++ (price_text Full x.price ++ (tail_text x ++ R)))) (length (volume_text network unit x.volume) + (length (price_text Full x.price) + length (tail_text x)))
   unfolding side_at
   by_volume [] e R o l =
       let part = volume_text network unit x.volume ++ (price_text Full x.price ++ (tail_text x ++ R)) in
@@ -383,5 +377,5 @@ module _ (network unit : ℕ) (x : Side) (h : Showable network x) (u : is_unit u
   by_volume (c ∷ shown) e R o l = said_reaches R (volume_again network unit x.volume w u o l (λ z. some_not_none c shown (sym e ∙ z)) (price_text Full x.price ++ (tail_text x ++ R)))
 
   -- THE SIDE, WHOLE AT LEAST
-  pub side_reaches : (R : List ℕ) → 1 ≤ x.volume → x.volume < 1000000000 → Reaches (side_at Alone letters a b (volume_text network unit x.volume ++ (price_text Full x.price ++ (tail_text x ++ R)))) (length (volume_text network unit x.volume) + (length (price_text Full x.price) + length (tail_text x)))
+  pub side_reaches : (R : List ℕ) → 1 ≤ x.volume → x.volume < 1000000000 → Reaches (side_at None letters a b (volume_text network unit x.volume ++ (price_text Full x.price ++ (tail_text x ++ R)))) (length (volume_text network unit x.volume) + (length (price_text Full x.price) + length (tail_text x)))
   side_reaches R o l = by_volume (volume_text network unit x.volume) refl R o l

@@ -7,6 +7,7 @@ use mathlib.Core.List.{List, [], ◌∷◌, ◌++◌}
 use lib.Dec.{eqb}
 use lib.ListN.{length, drop}
 use lib.Seq.{drop-drop, drop-append_seam}
+use Rattle.std.specs.Prelude.{Option, None, Result, Ok}
 use Rattle.text.specs.Bytes.{bytes}
 use Rattle.text.specs.Pick.{pick, opt}
 use Rattle.rules.specs.Price.{price_text}
@@ -20,14 +21,10 @@ use Rattle.line_owed.specs.Shown.{letter_count, Showable}
 use Rattle.read_price.specs.declared.PriceRead.{PriceRead}
 use Rattle.read_volume.specs.declared.Volume.{Volume}
 use Rattle.read_volume.specs.declared.Volume.TheVariants.{Unsaid}
-use Rattle.read_volume.specs.declared.VolumeAnswer.TheVariants.{NoVolume}
 use Rattle.read_volume.specs.Volume.{volume_at, explains, explained}
 use Rattle.read_name.specs.Head.{letters_after}
 use Rattle.read_conditions.specs.Tail.{tail_at}
-use Rattle.read_side.specs.declared.Beside.{Beside}
 use Rattle.read_side.specs.declared.SideRead.{SideRead}
-use Rattle.read_side.specs.declared.SideAnswer.{SideAnswer}
-use Rattle.read_side.specs.declared.SideAnswer.TheVariants.{Sided}
 use Rattle.read_side.specs.Side.{head_count, beside, sided_by, side_with, said_side, or_else, side_at}
 use borrow.Author.Tests.{eqb-true}
 use Rattle.text.specs.Reading.{heads, is_digit, dot_digit}
@@ -44,6 +41,7 @@ use Rattle.claim_longest.proofs.TailExact.{Ended, Begins, TailEnd, tail_ends, le
 use Rattle.claim_longest.proofs.SideBack.{some_not_none, none_one, unit_explains, tail_parts, tail_size, still_with, one_flag, flag_of, shown_n, shown_c, shown_few, apart_mk, apart_mr, apart_kr, apart_jg, rule_network, previous_network, shown_days}
 use Rattle.line_owed.proofs.Shown.{some_price, sound_price, shown_previous}
 use Rattle.rules.specs.declared.PriceForm.TheVariants.{Full}
+use Rattle.rules.specs.declared.Refusal.{Refusal}
 
 -- what stands behind a side that ends: no condition, no digit, no figure dot before one, and no mark behind figures
 pub record Closes (R : List ℕ) : Type 0 where
@@ -73,16 +71,16 @@ no_dot d q R false false false false false true z = refl
 no_dot d q R false false false false false false z = (z refl).dot
 
 -- a side read: its volume, and where its conditions ended
-pub record SideEnds (answer : SideAnswer) (network unit : ℕ) (size : ℕ) (x : Side) (R : List ℕ) : Type 0 where
+pub record SideEnds (answer : Result SideRead Refusal) (network unit : ℕ) (size : ℕ) (x : Side) (R : List ℕ) : Type 0 where
   pub got : SideRead
-  pub is : answer ≡ Sided got
+  pub is : answer ≡ Ok got
   pub by_unit : explains network unit got.volume ≡ true
   pub flags : Bool
   pub others : Bool
   pub on : flag_of network flags others ≡ true
   pub tail : TailEnd got.taken size (letters_before (letters_after x.letters.m x.letters.o x.letters.s x.letters.l) x.letters.k x.letters.b x.letters.t x.letters.r x.letters.j) flags (pick x.letters.j false others) x.letters.g R
 
-module _ (first : Beside) (network unit : ℕ) (x : Side) (h : Showable network x) (u : is_unit unit ≡ true) (w : is_network network ≡ true) (a b : Bool) (f : flag_of network a b ≡ true) (R : List ℕ) (z : x.letters.g ≡ false → Closes R) where
+module _ (first : Option Volume) (network unit : ℕ) (x : Side) (h : Showable network x) (u : is_unit unit ≡ true) (w : is_network network ≡ true) (a b : Bool) (f : flag_of network a b ≡ true) (R : List ℕ) (z : x.letters.g ≡ false → Closes R) where
   abbrev letters : Letters
   letters = letters_after x.letters.m x.letters.o x.letters.s x.letters.l
 
@@ -154,7 +152,7 @@ module _ (first : Beside) (network unit : ℕ) (x : Side) (h : Showable network 
       let i : explains network unit Unsaid ≡ true = ap (λ k. eqb k 100) n in
       let q : part ≡ price_text Full x.price ++ (tail_text x ++ R) = ap (λ v. v ++ (price_text Full x.price ++ (tail_text x ++ R))) e in
       let r = with_ends Unsaid 0 part (c Unsaid i) i q in
-      let v : volume_at part ≡ NoVolume = ap volume_at q ∙ no_volume x.price (tail_text x ++ R) unmarked_rest in
+      let v : volume_at part ≡ None = ap volume_at q ∙ no_volume x.price (tail_text x ++ R) unmarked_rest in
       record { got = r.got; is = rw v r.is; by_unit = r.by_unit; flags = r.flags; others = r.others; on = r.on; tail = subst (λ k. TailEnd r.got.taken (k + (length (price_text Full x.price) + length (tail_text x))) (letters_before letters x.letters.k x.letters.b x.letters.t x.letters.r x.letters.j) r.flags (pick x.letters.j false r.others) x.letters.g R) (sym (ap length e)) r.tail }
   by_shown (s ∷ shown) e o l c =
       let v = volume_text network unit x.volume in

@@ -9,6 +9,7 @@ use lib.Dec.{eqb}
 use borrow.Author.Tests.{eqb-true}
 use mathlib.Core.Option.{some}
 use lib.ListN.{length, take, drop}
+use Rattle.std.specs.Prelude.{Option, Some, None, Ok}
 use Rattle.text.specs.Bytes.{bytes}
 use Rattle.text.specs.Pick.{pick, opt, among}
 use Rattle.rules.specs.Price.{price_text, units}
@@ -21,11 +22,9 @@ use Rattle.name_back.specs.Cut.{one_sold}
 use Rattle.line_owed.specs.Shown.{Showable}
 use Rattle.read_volume.specs.Volume.{said_text, explains}
 use Rattle.read_volume.proofs.Shown.{explained_text}
+use Rattle.read_volume.specs.declared.Volume.{Volume}
 use Rattle.read_name.specs.Head.{letters_after}
-use Rattle.read_side.specs.declared.Beside.{Beside}
-use Rattle.read_side.specs.declared.Beside.TheVariants.{Alone}
 use Rattle.read_side.specs.declared.SideRead.{SideRead}
-use Rattle.read_side.specs.declared.SideAnswer.TheVariants.{Sided}
 use Rattle.read_side.specs.Side.{side_at}
 use Rattle.text.specs.Reading.{starts}
 use Rattle.rules.specs.Names.{name_text}
@@ -65,7 +64,7 @@ after_same x y o s l m n k = rw (o, s, l, m, n, k)
 
 -- ---- a side's text is what stands behind its head
 
-module _ (first : Beside) (letters : Letters) (a b : Bool) (part : List ℕ) (x : SideRead) (h : Headed letters) (t : SideTold first letters a b part x) where
+module _ (first : Option Volume) (letters : Letters) (a b : Bool) (part : List ℕ) (x : SideRead) (h : Headed letters) (t : SideTold first letters a b part x) where
   pub side_text_lem : (text : List ℕ) (network unit : ℕ) → explains network unit x.volume ≡ true → side_text text network unit Full true x.taken.side ≡ (text ++ after_name letters) ++ take x.taken.used part
   unfolding side_text head_text opt
   side_text_lem text network unit e =
@@ -97,18 +96,18 @@ on_network_lem temporary s h network t n e =
 
 -- ---- trades
 
-module _ (s : List ℕ) (h : NameRead) (k : HeadTold true s h) (x : SideRead) (e : side_at Alone h.letters h.a h.b (drop h.used s) ≡ Sided x) where
+module _ (s : List ℕ) (h : NameRead) (k : HeadTold true s h) (x : SideRead) (e : side_at None h.letters h.a h.b (drop h.used s) ≡ Ok x) where
   pub trade_printable : Printable (take (h.used + x.taken.used) s) (take h.length s) (read_trade (units x.taken.side.price) (conditions_of x.taken.side) (some x.taken.side.volume))
   trade_printable =
       let d = headed h.letters k.sold k.only in
-      let t = side_told Alone h.letters h.a h.b (drop h.used s) d x e in
-      let w = explains_side Alone h.letters h.a h.b (drop h.used s) x d t in
+      let t = side_told None h.letters h.a h.b (drop h.used s) d x e in
+      let w = explains_side None h.letters h.a h.b (drop h.used s) x d t in
       let b = name_built true w.network (take h.length s) w.is_network_lem (on_network_lem true s h w.network k w.is_network_lem w.allowed) in
       let u = w.unit_there in
       printable_as
       (by_trade w.network u.unit b.name x.taken.side (record { on = w.is_network_lem; trades_in = u.lawful; plain = b.plain; sized = b.sized; printable = b.printable }) w.shows)
       (ap (λ z. side_text z w.network u.unit Full true x.taken.side) b.shown
-      ∙ side_text_lem Alone h.letters h.a h.b (drop h.used s) x d t (take h.length s) w.network u.unit u.second
+      ∙ side_text_lem None h.letters h.a h.b (drop h.used s) x d t (take h.length s) w.network u.unit u.second
       ∙ ap (λ z. z ++ take x.taken.used (drop h.used s)) (sym k.text)
       ∙ sym (two_fronts s h.used x.taken.used))
       b.shown
@@ -116,18 +115,18 @@ module _ (s : List ℕ) (h : NameRead) (k : HeadTold true s h) (x : SideRead) (e
 
 -- ---- cancels and errors
 
-end_cases : (s : List ℕ) (n m : ℕ) (g t : Bool) → starts (bytes ">>") (drop n s) ≡ t → pick g n (pick t (n + 2) 0) ≡ m → 1 ≤ m → take m s ≡ take n s ++ opt (not g) (bytes ">>")
+end_cases : (s : List ℕ) (n m : ℕ) (g t : Bool) → starts (bytes ">>") (drop n s) ≡ t → pick g (Some n) (pick t (Some (n + 2)) None) ≡ Some m → take m s ≡ take n s ++ opt (not g) (bytes ">>")
 unfolding pick opt
-end_cases s n m true t k e o = ap (λ i. take i s) (sym e) ∙ sym (append-nil (take n s))
-end_cases s n m false true k e o = ap (λ i. take i s) (sym e) ∙ two_fronts s n 2 ∙ ap (λ z. take n s ++ z) (starts_front (bytes ">>") (drop n s) k)
-end_cases s n m false false k e o = absurd (omega (e, o, arith))
+end_cases s n m true t k e = let q : n ≡ m = cc in ap (λ i. take i s) (sym q) ∙ sym (append-nil (take n s))
+end_cases s n m false true k e = let q : n + 2 ≡ m = cc in ap (λ i. take i s) (sym q) ∙ two_fronts s n 2 ∙ ap (λ z. take n s ++ z) (starts_front (bytes ">>") (drop n s) k)
+end_cases s n m false false k e = absurd (let z : ◌≡◌ {A = ℕ} 0 1 = cc in omega arith)
 
 -- the end pair, or the closing G pair that serves
-pub end_told : (s : List ℕ) (n m : ℕ) (y : Side) → end_at s n y ≡ m → 1 ≤ m → take m s ≡ take n s ++ end_pair y
+pub end_told : (s : List ℕ) (n m : ℕ) (y : Side) → end_at s n y ≡ Some m → take m s ≡ take n s ++ end_pair y
 unfolding end_at end_pair
-end_told s n m y e o = end_cases s n m y.letters.g (starts (bytes ">>") (drop n s)) refl e o
+end_told s n m y e = end_cases s n m y.letters.g (starts (bytes ">>") (drop n s)) refl e
 
-module _ (opening s : List ℕ) (six : length opening ≡ 6) (starts-there : starts opening s ≡ true) (h : NameRead) (k : HeadTold false (drop 6 s) h) (x : SideRead) (e : side_at Alone h.letters h.a h.b (drop (6 + h.used) s) ≡ Sided x) where
+module _ (opening s : List ℕ) (six : length opening ≡ 6) (starts-there : starts opening s ≡ true) (h : NameRead) (k : HeadTold false (drop 6 s) h) (x : SideRead) (e : side_at None h.letters h.a h.b (drop (6 + h.used) s) ≡ Ok x) where
   front_of : take (6 + h.used + x.taken.used) s ≡ opening ++ ((take h.length (drop 6 s) ++ after_name h.letters) ++ take x.taken.used (drop (6 + h.used) s))
   front_of =
       two_fronts s (6 + h.used) x.taken.used
@@ -144,12 +143,12 @@ module _ (opening s : List ℕ) (six : length opening ≡ 6) (starts-there : sta
     pub named : name_text false name ≡ take h.length (drop 6 s)
     pub text : cancel_text opening (name_text false name) network unit Full true x.taken.side ≡ take m s
 
-  pub cancel_told_lem : (m : ℕ) → end_at s (6 + h.used + x.taken.used) x.taken.side ≡ m → 1 ≤ m → CancelTold m
+  pub cancel_told_lem : (m : ℕ) → end_at s (6 + h.used + x.taken.used) x.taken.side ≡ Some m → CancelTold m
   unfolding cancel_text
-  cancel_told_lem m f o =
+  cancel_told_lem m f =
       let d = headed h.letters k.sold k.only in
-      let t = side_told Alone h.letters h.a h.b (drop (6 + h.used) s) d x e in
-      let w = explains_side Alone h.letters h.a h.b (drop (6 + h.used) s) x d t in
+      let t = side_told None h.letters h.a h.b (drop (6 + h.used) s) d x e in
+      let w = explains_side None h.letters h.a h.b (drop (6 + h.used) s) x d t in
       let b = name_built false w.network (take h.length (drop 6 s)) w.is_network_lem (on_network_lem false (drop 6 s) h w.network k w.is_network_lem w.allowed) in
       let u = w.unit_there in
       record {
@@ -161,7 +160,7 @@ module _ (opening s : List ℕ) (six : length opening ≡ 6) (starts-there : sta
         named = b.shown;
         text =
             ap (λ z. (opening ++ side_text z w.network u.unit Full true x.taken.side) ++ end_pair x.taken.side) b.shown
-            ∙ ap (λ z. (opening ++ z) ++ end_pair x.taken.side) (side_text_lem Alone h.letters h.a h.b (drop (6 + h.used) s) x d t (take h.length (drop 6 s)) w.network u.unit u.second)
+            ∙ ap (λ z. (opening ++ z) ++ end_pair x.taken.side) (side_text_lem None h.letters h.a h.b (drop (6 + h.used) s) x d t (take h.length (drop 6 s)) w.network u.unit u.second)
             ∙ ap (λ z. z ++ end_pair x.taken.side) (sym front_of)
-            ∙ sym (end_told s (6 + h.used + x.taken.used) m x.taken.side f o);
+            ∙ sym (end_told s (6 + h.used + x.taken.used) m x.taken.side f);
       }

@@ -7,6 +7,7 @@ use mathlib.Core.List.{List, [], ◌∷◌, ◌++◌, append_assoc}
 use lib.Dec.{eqb, ltb}
 use lib.ListN.{length, drop, length-append}
 use lib.Seq.{drop-drop, drop-append_seam}
+use Rattle.std.specs.Prelude.{Option, Some, None}
 use Rattle.print_conditions.proofs.TailBack.{pair_ends}
 use Rattle.text.specs.Bytes.{bytes}
 use Rattle.text.specs.Pick.{pick, opt}
@@ -25,8 +26,6 @@ use Rattle.print_price.specs.Sound.{Sound}
 use Rattle.line_owed.specs.Shown.{one}
 use Rattle.read_price.specs.declared.Digits.{Digits}
 use Rattle.read_price.specs.declared.PriceRead.{PriceRead}
-use Rattle.read_price.specs.declared.PriceAnswer.{PriceAnswer}
-use Rattle.read_price.specs.declared.PriceAnswer.TheVariants.{Priced, NoPrice}
 use Rattle.read_price.specs.Digits.{digits_onto, digits_at, zero_first}
 use Rattle.read_price.proofs.Bounds.{digits_counted}
 use Rattle.read_price.specs.Price.{price_at}
@@ -104,10 +103,10 @@ module _ (s : List ℕ) (st : Taken) where
   unfolding rule_at
   rule_on = picked_on (takes_rule s st) _ st st.used (further_on st _ 7 _ _) (omega arith)
 
-  previous_by_on : (p : PriceAnswer) → st.used ≤ (previous_by st p).used
+  previous_by_on : (p : Option PriceRead) → st.used ≤ (previous_by st p).used
   unfolding previous_by
-  previous_by_on (Priced p) = further_on st _ _ _ _
-  previous_by_on NoPrice = omega arith
+  previous_by_on (Some p) = further_on st _ _ _ _
+  previous_by_on None = omega arith
 
   pub previous_on : st.used ≤ (previous_at s st).used
   unfolding previous_at
@@ -338,7 +337,7 @@ module _ (s : List ℕ) (st : Taken) where
 
 pub record PreviousAgain (q : Price) (R : List ℕ) : Type 0 where
   pub got : PriceRead
-  pub read : previous_in (previous_text q ++ R) ≡ Priced got
+  pub read : previous_in (previous_text q ++ R) ≡ Some got
   pub exact : 13 + got.used ≡ length (previous_text q)
   pub value : units got.price ≡ units q
 
@@ -352,20 +351,20 @@ previous_again q R h o =
     let f : drop a.got.used (t ++ (bytes ">>" ++ R)) ≡ bytes ">>" ++ R = ap (λ n. drop n (t ++ (bytes ">>" ++ R))) x.0 ∙ drop-append_seam t (bytes ">>" ++ R) in
     record {
       got = a.got;
-      read = ap (λ z. pick (starts (bytes ">>PREV.LAST") z) (closed_by (drop 11 z) (price_at (drop 11 z))) NoPrice) e ∙ rw (a.read, f);
+      read = ap (λ z. pick (starts (bytes ">>PREV.LAST") z) (closed_by (drop 11 z) (price_at (drop 11 z))) None) e ∙ rw (a.read, f);
       exact = omega (x.0, length-append (bytes ">>PREV.LAST" ++ t) (bytes ">>"), length-append (bytes ">>PREV.LAST") t, arith);
       value = x.1;
     }
 
 module _ (s : List ℕ) (st : Taken) where
   abbrev pub with_previous : PriceRead → Taken
-  with_previous p = previous_by st (Priced p)
+  with_previous p = previous_by st (Some p)
 
   pub previous_there : (q : Price) (R : List ℕ) → drop st.used s ≡ previous_text q ++ R → (a : PreviousAgain q R) → st.count < 4 → st.b ≡ true → previous_at s st ≡ with_previous a.got
   unfolding previous_at pick
   previous_there q R e a n b = rw (sym (is_lt st.count 4 n), b, e, a.read)
 
-previous_reached : (st : Taken) (q : Price) (R : List ℕ) (a : PreviousAgain q R) → st.used + length (previous_text q) ≤ (previous_by st (Priced a.got)).used
+previous_reached : (st : Taken) (q : Price) (R : List ℕ) (a : PreviousAgain q R) → st.used + length (previous_text q) ≤ (previous_by st (Some a.got)).used
 unfolding previous_by further
 previous_reached st q R a = omega (a.exact, arith)
 

@@ -6,6 +6,7 @@ use mathlib.Core.Bool.{Bool, true, false, ◌&&◌}
 use mathlib.Core.List.{List, ◌++◌}
 use lib.Dec.{ltb}
 use lib.ListN.{length, drop, length-append}
+use Rattle.std.specs.Prelude.{Option, Some, None}
 use Rattle.text.specs.Bytes.{bytes}
 use Rattle.text.specs.Pick.{pick, opt}
 use Rattle.text.specs.Decimal.{decimal}
@@ -19,8 +20,6 @@ use Rattle.rules.specs.declared.Price.{Price}
 use Rattle.print_price.specs.Sound.{Sound}
 use Rattle.line_owed.specs.Shown.{one}
 use Rattle.read_price.specs.declared.PriceRead.{PriceRead}
-use Rattle.read_price.specs.declared.PriceAnswer.{PriceAnswer}
-use Rattle.read_price.specs.declared.PriceAnswer.TheVariants.{Priced, NoPrice}
 use Rattle.read_price.specs.Price.{price_at}
 use Rattle.read_conditions.specs.declared.Taken.{Taken}
 use Rattle.read_conditions.specs.Tail.{plus_cash, plus_average, plus_stopped, plus_seller, plus_rule, plus_previous, side_with, further, takes_cash, cash_at, takes_average, average_at, takes_stopped, stopped_at, seller_days, seller_at, takes_rule, rule_at, closed_by, previous_in, previous_by, previous_at, after_price_at, at_end_at, tail_at}
@@ -301,23 +300,23 @@ pub data TailEnd (end : Taken) (size : ℕ) (x : Letters) (a b g : Bool) (R : Li
   ended : end.used ≡ size → end.side.letters ≡ set_g g x → end.a ≡ pick g false a → end.b ≡ b → TailEnd end size x a b g R
   more : g ≡ false → end.side.letters ≡ set_g true x → size + 2 ≤ end.used → starts (bytes ">>PREV.LAST") R ≡ true → TailEnd end size x a b g R
 
-is_priced : PriceAnswer → Bool
-is_priced (Priced p) = true
-is_priced NoPrice = false
+is_priced : Option PriceRead → Bool
+is_priced (Some p) = true
+is_priced None = false
 
-some_price : (b : Bool) (y : PriceAnswer) (p : PriceRead) → pick b y NoPrice ≡ Priced p → b ≡ true
+some_price : (b : Bool) (y : Option PriceRead) (p : PriceRead) → pick b y None ≡ Some p → b ≡ true
 unfolding pick is_priced
 some_price true y p h = refl
 some_price false y p h = ap is_priced h
 
-previous_starts : (s : List ℕ) (p : PriceRead) → previous_in s ≡ Priced p → starts (bytes ">>PREV.LAST") s ≡ true
+previous_starts : (s : List ℕ) (p : PriceRead) → previous_in s ≡ Some p → starts (bytes ">>PREV.LAST") s ≡ true
 unfolding previous_in
 previous_starts s p h = some_price (starts (bytes ">>PREV.LAST") s) (closed_by (drop 11 s) (price_at (drop 11 s))) p h
 
-not_there : (s : List ℕ) (st : Taken) (R : List ℕ) (u n : ℕ) (x : Letters) (a b : Bool) → Is st u n x a b → x.g ≡ false → drop st.used s ≡ R → (y : PriceAnswer) → previous_in (drop st.used s) ≡ y → TailEnd (previous_by st y) u x a b false R
+not_there : (s : List ℕ) (st : Taken) (R : List ℕ) (u n : ℕ) (x : Letters) (a b : Bool) → Is st u n x a b → x.g ≡ false → drop st.used s ≡ R → (y : Option PriceRead) → previous_in (drop st.used s) ≡ y → TailEnd (previous_by st y) u x a b false R
 unfolding previous_by pick
-not_there s st R u n x a b i z e NoPrice k = ended i.used_at (i.letters_are ∙ ap (λ f. set_g f x) z) i.a_is i.b_is
-not_there s st R u n x a b i z e (Priced p) k =
+not_there s st R u n x a b i z e None k = ended i.used_at (i.letters_are ∙ ap (λ f. set_g f x) z) i.a_is i.b_is
+not_there s st R u n x a b i z e (Some p) k =
     let o = previous_is s st u n x a b i p in
     more refl o.letters_are (omega (o.used_at, arith)) (ap (starts (bytes ">>PREV.LAST")) (sym e) ∙ previous_starts (drop st.used s) p k)
 

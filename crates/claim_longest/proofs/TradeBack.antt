@@ -9,6 +9,7 @@ use lib.Dec.{eqb, leb}
 use lib.ListN.{length, length-append}
 use lib.Seq.{drop-append_seam}
 use borrow.Author.Tests.{eqb-true, leb-true}
+use Rattle.std.specs.Prelude.{Some, Ok}
 use Rattle.text.specs.Pick.{pick, opt, among}
 use Rattle.text.specs.Reading.{heads}
 use Rattle.text.proofs.Texts.{and_left, and_right}
@@ -26,11 +27,10 @@ use Rattle.print_side.proofs.SideBack.{side_lower}
 use Rattle.line_owed.specs.Shown.{Enterable, Showable}
 use Rattle.read_name.specs.Name.{name_on}
 use Rattle.read_name.specs.Head.{head_at}
-use Rattle.read_name.specs.declared.NameAnswer.TheVariants.{Named}
 use Rattle.claim_names.proofs.Lawful.{name_lawful}
 use Rattle.claim_names.proofs.Head.{head_read, head_found}
 use Rattle.reader.specs.declared.PrintRead.{PrintRead}
-use Rattle.reader.specs.declared.ReadAnswer.TheVariants.{Trade}
+use Rattle.reader.specs.declared.Print.TheVariants.{Trade}
 use Rattle.reader.specs.Read.{trade_side, trade_head, trade_at}
 use Rattle.claim_longest.proofs.SideBack.{flag_of, shown_n, side_reaches}
 use Rattle.line_owed.proofs.Shown.{some_price, shown_sold}
@@ -57,7 +57,7 @@ volume_in n h = (leb-true 1 n (and_left (leb 1 n) _ h), omega (leb-true n 999999
 -- what is read at a trade
 pub record TradeReaches (s : List ℕ) (n : ℕ) : Type 0 where
   pub got : PrintRead
-  pub is : trade_at s ≡ Trade got
+  pub is : trade_at s ≡ Ok (Trade got)
   pub far : n ≤ got.length
 
 module _ (network unit : ℕ) (name : List ℕ) (x : Side) (e : Enterable network unit name) (h : Showable network x) (R : List ℕ) where
@@ -79,7 +79,7 @@ module _ (network unit : ℕ) (name : List ℕ) (x : Side) (e : Enterable networ
   unfolding opt
   lower = side_lower network unit x.volume Full true x.price (tail_text x ++ R) (some_price x.price h.price_fits)
 
-  headed : head_at true (head ++ rest) ≡ Named (head_read true (name_text true name) x.letters)
+  headed : head_at true (head ++ rest) ≡ Some (head_read true (name_text true name) x.letters)
   headed = head_found true network name e.on e.plain x.letters (shown_n network x h) (shown_sold network x h) rest lower
 
   -- THE TRADE, WHOLE AT LEAST

@@ -2,6 +2,7 @@
 use Prim.Native.Nat.{ℕ, ◌+◌, ◌-◌}
 use mathlib.Core.Path.{◌≡◌}
 use mathlib.Core.List.{List, ◌∷◌}
+use Rattle.std.specs.Prelude.{Result, Ok, Err}
 use Rattle.text.specs.Pick.{pick}
 use Rattle.rules.specs.Price.{units}
 use Rattle.rules.specs.Shown.{shown_letters, conditions_of}
@@ -10,10 +11,10 @@ use Rattle.rules.specs.declared.Refusal.{Refusal}
 use Rattle.rules.specs.declared.Side.{Side}
 use Rattle.reader.specs.declared.PrintRead.{PrintRead}
 use Rattle.reader.specs.declared.CorrectionRead.{CorrectionRead}
-use Rattle.reader.specs.declared.ReadAnswer.{ReadAnswer}
-use Rattle.reader.specs.declared.ReadAnswer.TheVariants.{Announcement, Trade, Cancel, Error, Correction, Refused}
+use Rattle.reader.specs.declared.Print.TheVariants.{Announcement, Trade, Cancel, Error, Correction}
 use Rattle.reader.specs.Read.{read_at}
 use Rattle.reader.specs.Told.{length_of, name_from, name_length, part_in, fact_in}
+use Rattle.reader.specs.declared.Print.{Print}
 use Rattle.read_numbers.specs.declared.SideNumbers.{SideNumbers}
 use Rattle.read_numbers.specs.Numbers.{letters_number, side_numbers, no_side, part_numbers, volume_number, kind_and_sides, fact_numbers, numbers_of, numbers_at}
 
@@ -38,30 +39,31 @@ unnamed_is n kind x y r e f g = gathered_is n 0 0 kind x y no_side no_side r e f
 
 -- ---- an answer
 
-module _ (tape : List ℕ) (place : ℕ) (r : ReadAnswer) (out : List ℕ) (e : r ≡ read_at tape place) where
-  pub announced : (n : ℕ) → r ≡ Announcement n → out ≡ n ∷ 0 ∷ 0 ∷ kind_and_sides 65 no_side no_side → out ≡ numbers_at tape place
-  unfolding numbers_at numbers_of length_of name_from name_length fact_in fact_numbers
-  announced n k h = rw (← e, k) h
-
-  pub refused : (x : Refusal) → r ≡ Refused x → out ≡ 0 ∷ 0 ∷ 0 ∷ kind_and_sides 0 no_side no_side → out ≡ numbers_at tape place
+module _ (tape : List ℕ) (place : ℕ) (r : Result Print Refusal) (out : List ℕ) (e : r ≡ read_at tape place) where
+  pub refused : (x : Refusal) → r ≡ Err x → out ≡ 0 ∷ 0 ∷ 0 ∷ kind_and_sides 0 no_side no_side → out ≡ numbers_at tape place
   unfolding numbers_at numbers_of length_of name_from name_length fact_in fact_numbers
   refused x k h = rw (← e, k) h
 
-  module _ (p : PrintRead) where
-    pub traded : r ≡ Trade p → out ≡ p.length ∷ p.from ∷ (p.to - p.from) ∷ kind_and_sides 84 (part_numbers (part_in p.side)) no_side → out ≡ numbers_at tape place
-    unfolding numbers_at numbers_of length_of name_from name_length fact_in fact_numbers part_numbers volume_number
-    traded k h = rw (← e, k) h
-
-    pub cancelled : r ≡ Cancel p → out ≡ p.length ∷ p.from ∷ (p.to - p.from) ∷ kind_and_sides 88 (part_numbers (part_in p.side)) no_side → out ≡ numbers_at tape place
+  module _ (print : Print) (o : r ≡ Ok print) where
+    pub announced : (n : ℕ) → print ≡ Announcement n → out ≡ n ∷ 0 ∷ 0 ∷ kind_and_sides 65 no_side no_side → out ≡ numbers_at tape place
     unfolding numbers_at numbers_of length_of name_from name_length fact_in fact_numbers
-    cancelled k h = rw (← e, k) h
+    announced n k h = rw (← e, o, k) h
 
-    pub erred : r ≡ Error p → out ≡ p.length ∷ p.from ∷ (p.to - p.from) ∷ kind_and_sides 69 (part_numbers (part_in p.side)) no_side → out ≡ numbers_at tape place
+    module _ (p : PrintRead) where
+      pub traded : print ≡ Trade p → out ≡ p.length ∷ p.from ∷ (p.to - p.from) ∷ kind_and_sides 84 (part_numbers (part_in p.side)) no_side → out ≡ numbers_at tape place
+      unfolding numbers_at numbers_of length_of name_from name_length fact_in fact_numbers part_numbers volume_number
+      traded k h = rw (← e, o, k) h
+
+      pub cancelled : print ≡ Cancel p → out ≡ p.length ∷ p.from ∷ (p.to - p.from) ∷ kind_and_sides 88 (part_numbers (part_in p.side)) no_side → out ≡ numbers_at tape place
+      unfolding numbers_at numbers_of length_of name_from name_length fact_in fact_numbers
+      cancelled k h = rw (← e, o, k) h
+
+      pub erred : print ≡ Error p → out ≡ p.length ∷ p.from ∷ (p.to - p.from) ∷ kind_and_sides 69 (part_numbers (part_in p.side)) no_side → out ≡ numbers_at tape place
+      unfolding numbers_at numbers_of length_of name_from name_length fact_in fact_numbers
+      erred k h = rw (← e, o, k) h
+
+    pub corrected : (p : CorrectionRead) → print ≡ Correction p → out ≡ p.length ∷ p.from ∷ (p.to - p.from) ∷ kind_and_sides 67 (part_numbers (part_in p.original)) (part_numbers (part_in p.correcting)) → out ≡ numbers_at tape place
     unfolding numbers_at numbers_of length_of name_from name_length fact_in fact_numbers
-    erred k h = rw (← e, k) h
-
-  pub corrected : (p : CorrectionRead) → r ≡ Correction p → out ≡ p.length ∷ p.from ∷ (p.to - p.from) ∷ kind_and_sides 67 (part_numbers (part_in p.original)) (part_numbers (part_in p.correcting)) → out ≡ numbers_at tape place
-  unfolding numbers_at numbers_of length_of name_from name_length fact_in fact_numbers
-  corrected p k h = rw (← e, k) h
+    corrected p k h = rw (← e, o, k) h
 
 pub ruleset arms = (announced, refused, traded, cancelled, erred, corrected)

@@ -1,13 +1,14 @@
 -- What the reader tells of a place of a tape, as fourteen numbers. Assumes nothing.
-use Rattle.std.specs.Prelude.{ℕ, ◌+◌, List, [], ◌∷◌, drop}
+use Rattle.std.specs.Prelude.{ℕ, ◌+◌, List, [], ◌∷◌, drop, Result}
 use Rattle.std.proofs.Math.Option.{Option, none, some}
 use Rattle.text.specs.Pick.{pick}
 use Rattle.rules.specs.Shown.{Conditions, Part, in_full, bare}
 use Rattle.rules.specs.NormalPrint.{ReadFact, read_announcement, read_trade, read_cancel, read_error, read_correction}
 use Rattle.rules.specs.declared.Letters.{Letters}
-use Rattle.reader.specs.declared.ReadAnswer.{ReadAnswer}
+use Rattle.rules.specs.declared.Refusal.{Refusal}
 use Rattle.reader.specs.Read.{read_at}
 use Rattle.reader.specs.Told.{length_of, name_from, name_length, fact_in}
+use Rattle.reader.specs.declared.Print.{Print}
 use Rattle.read_numbers.specs.declared.SideNumbers.{SideNumbers}
 
 -- ---- a side: price and previous last in units of ten to the power -8 dollars, the set of letters, days, volume; 0 for none
@@ -50,7 +51,7 @@ fact_numbers (some (read_correction x y)) = kind_and_sides 67 (part_numbers x) (
 
 -- ---- a place: the print's length, where in it its name begins and how long that is, and the facts
 
-unfoldable pub numbers_of : List ℕ → ReadAnswer → List ℕ
+unfoldable pub numbers_of : List ℕ → Result Print Refusal → List ℕ
 numbers_of s r = length_of r ∷ name_from r ∷ name_length r ∷ fact_numbers (fact_in s r)
 
 unfoldable pub numbers_at : List ℕ → ℕ → List ℕ

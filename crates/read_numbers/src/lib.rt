@@ -8,8 +8,8 @@ ghost use Rattle.reader.specs.Told.{part_in};
 ghost use Rattle.facts_side.specs.Sound.{SoundSide};
 ghost use Rattle.read_numbers.specs.Numbers.{letters_number, no_side, part_numbers, kind_and_sides, numbers_at};
 
-use reader::{CorrectionRead, PrintRead, ReadAnswer};
-use rules::{Letters, Side};
+use reader::{CorrectionRead, Print, PrintRead};
+use rules::{Letters, Refusal, Side};
 
 // A side as numbers, 0 for none; prices in units of ten to the power -8 dollars, the letters as a set of bits.
 #[derive(Clone, Copy)]
@@ -23,16 +23,19 @@ pub struct SideNumbers {
 
 // ---- a side
 
+#[tactic(auto, unfolding(text::specs::Pick::pick))]
 fn bit(there: bool, n: u64) -> u64
     ensures { (result ≡ pick there n 0) × (result ≤ n) }
 {
     if there {
-        return n;
+        n
+    } else {
+        0
     }
-    0
 }
 
 // O the lowest bit, then S L M K R B T J G.
+#[tactic(auto, unfolding(crate::specs::Numbers::letters_number))]
 pub fn letters_number(x: Letters) -> u64
     ensures { result ≡ letters_number x }
 {
@@ -52,14 +55,11 @@ fn side_numbers(x: Side) -> SideNumbers
     requires { SoundSide x }
     ensures { result ≡ part_numbers (part_in x) }
 {
-    let price = print_price::in_units(x.price);
-    let previous = print_price::in_units(x.previous);
-    let letters = facts_side::shown_letters(x.letters);
     SideNumbers {
-        price: price,
-        letters: letters_number(letters),
+        price: print_price::in_units(x.price),
+        letters: letters_number(facts_side::shown_letters(x.letters)),
         days: x.days,
-        previous: previous,
+        previous: print_price::in_units(x.previous),
         volume: x.volume,
     }
 }
@@ -78,17 +78,8 @@ pub fn no_side() -> SideNumbers
 
 // ---- a print
 
-// The bytes between two places.
-fn between(from: usize, to: usize) -> u64
-    ensures { result ≡ to - from }
-{
-    if to <= from {
-        return 0;
-    }
-    (to - from) as u64
-}
-
 // Length, name from and to, kind and sides.
+// Kept: a kind is a number here, as the C interface gives it.
 fn gathered(
     n: usize,
     from: usize,
@@ -99,11 +90,10 @@ fn gathered(
 ) -> [u64; 14]
     ensures { result ≡ n ∷ from ∷ (to - from) ∷ kind_and_sides kind x y }
 {
-    let name = between(from, to);
     [
         n as u64,
         from as u64,
-        name,
+        to.saturating_sub(from) as u64,
         kind,
         x.price,
         x.letters,
@@ -123,23 +113,20 @@ fn print_numbers(kind: u64, p: PrintRead) -> [u64; 14]
     requires { SoundSide p.side }
     ensures { result ≡ p.length ∷ p.from ∷ (p.to - p.from) ∷ kind_and_sides kind (part_numbers (part_in p.side)) no_side }
 {
-    let side = p.side;
-    gathered(p.length, p.from, p.to, kind, side_numbers(side), no_side())
+    gathered(p.length, p.from, p.to, kind, side_numbers(p.side), no_side())
 }
 
 fn correction_numbers(p: CorrectionRead) -> [u64; 14]
     requires { SoundSide p.original × SoundSide p.correcting }
     ensures { result ≡ p.length ∷ p.from ∷ (p.to - p.from) ∷ kind_and_sides 67 (part_numbers (part_in p.original)) (part_numbers (part_in p.correcting)) }
 {
-    let original = p.original;
-    let correcting = p.correcting;
     gathered(
         p.length,
         p.from,
         p.to,
         67,
-        side_numbers(original),
-        side_numbers(correcting),
+        side_numbers(p.original),
+        side_numbers(p.correcting),
     )
 }
 
@@ -151,16 +138,18 @@ fn plain_numbers(n: usize, kind: u64) -> [u64; 14]
 }
 
 // The fourteen numbers of the answer r at a place; all are 0 where there is no print.
-pub fn numbers_of(tape: &[u8], place: usize, r: ReadAnswer) -> [u64; 14]
+pub fn numbers_of(tape: &[u8], place: usize, r: Result<Print, Refusal>) -> [u64; 14]
     requires { r ≡ read_at tape.now place }
     ensures { result ≡ numbers_at tape.now place }
 {
-    match r {
-        ReadAnswer::Announcement(n) => plain_numbers(n, 65),
-        ReadAnswer::Trade(p) => print_numbers(84, p),
-        ReadAnswer::Cancel(p) => print_numbers(88, p),
-        ReadAnswer::Error(p) => print_numbers(69, p),
-        ReadAnswer::Correction(p) => correction_numbers(p),
-        ReadAnswer::Refused(x) => plain_numbers(0, 0),
+    let Ok(print) = r else {
+        return plain_numbers(0, 0);
+    };
+    match print {
+        Print::Announcement(n) => plain_numbers(n, 65),
+        Print::Trade(p) => print_numbers(84, p),
+        Print::Cancel(p) => print_numbers(88, p),
+        Print::Error(p) => print_numbers(69, p),
+        Print::Correction(p) => correction_numbers(p),
     }
 }

@@ -4,21 +4,23 @@ use native.Mathlib.Omega.{arith}
 use mathlib.Core.Path.{refl, ap}
 use mathlib.Core.List.{List}
 use lib.ListN.{length, drop, length-append, length-take, length-drop}
+use Rattle.std.specs.Prelude.{Result, Ok, Err}
 use Rattle.text.specs.Bytes.{bytes}
 use Rattle.text_right.specs.Justified.{right}
 use Rattle.text_right.proofs.Writes.{length_right}
 use Rattle.rules.specs.Price.{units}
 use Rattle.rules.specs.Shown.{conditions_of}
 use Rattle.rules.specs.declared.Side.{Side}
+use Rattle.rules.specs.declared.Refusal.{Refusal}
 use Rattle.print_price.proofs.Texts.{units_small}
 use Rattle.facts_side.specs.Sides.{part_text}
 use Rattle.facts_side.proofs.Short.{full_short}
-use Rattle.reader.specs.declared.ReadAnswer.{ReadAnswer}
-use Rattle.reader.specs.declared.ReadAnswer.TheVariants.{Announcement, Trade, Cancel, Error, Correction, Refused}
+use Rattle.reader.specs.declared.Print.TheVariants.{Announcement, Trade, Cancel, Error, Correction}
 use Rattle.reader.specs.declared.PrintRead.{PrintRead}
 use Rattle.reader.specs.Read.{print_at}
 use Rattle.reader.specs.Told.{length_of, name_from, name_length, name_in, part_in, fact_in}
 use Rattle.reader.proofs.Bounds.{print_within}
+use Rattle.reader.specs.declared.Print.{Print}
 use Rattle.facts_side.specs.Sound.{SoundSide}
 use Rattle.read_told.specs.Lines.{announcement_text, among_text, correction_text, fact_text, facts_text, place_text, name_text, line_text, print_line, told_line}
 use Rattle.read_told.proofs.Sound.{SoundAnswer, answer_sound}
@@ -31,22 +33,22 @@ unfolding part_text conditions_of
 side_short x h = full_short (units x.price) (conditions_of x) x.volume (units_small x.price h.price_is) h.days_is (units_small x.previous h.previous_is) h.volume_is
 
 module _ (s : List ℕ) where
-  name_short : (r : ReadAnswer) → length (name_in s r) ≤ length s
+  name_short : (r : Result Print Refusal) → length (name_in s r) ≤ length s
   unfolding name_in
   name_short r = omega (arith, length-take (name_length r) (drop (name_from r) s), length-drop (name_from r) s)
 
-  trade_short : (x : PrintRead) → SoundSide x.side → length (facts_text (fact_in s (Trade x))) ≤ 83
-  trade_short x h = omega (arith, ap length (facts_trade s 0 (Trade x) x refl), length-append (bytes "T ") (part_text (part_in x.side)), side_short x.side h)
+  trade_short : (x : PrintRead) → SoundSide x.side → length (facts_text (fact_in s (Ok (Trade x)))) ≤ 83
+  trade_short x h = omega (arith, ap length (facts_trade s 0 (Ok (Trade x)) (Trade x) refl x refl), length-append (bytes "T ") (part_text (part_in x.side)), side_short x.side h)
 
   -- an announcement has no name
-  facts_short : (r : ReadAnswer) → SoundAnswer r → length (name_in s r) + length (facts_text (fact_in s r)) ≤ 177 + length s
+  facts_short : (r : Result Print Refusal) → SoundAnswer r → length (name_in s r) + length (facts_text (fact_in s r)) ≤ 177 + length s
   unfolding SoundAnswer name_in name_from name_length facts_text fact_in fact_text announcement_text among_text correction_text
-  facts_short (Announcement n) h = simp length-append (omega (arith, length-take n s))
-  facts_short (Trade x) h = omega (arith, name_short (Trade x), trade_short x h)
-  facts_short (Cancel x) h = simp length-append (omega (arith, name_short (Cancel x), side_short x.side h))
-  facts_short (Error x) h = simp length-append (omega (arith, name_short (Error x), side_short x.side h))
-  facts_short (Correction x) h = simp length-append (omega (arith, name_short (Correction x), side_short x.original h.0, side_short x.correcting h.1))
-  facts_short (Refused r) h = omega (arith, name_short (Refused r))
+  facts_short (Ok (Announcement n)) h = simp length-append (omega (arith, length-take n s))
+  facts_short (Ok (Trade x)) h = omega (arith, name_short (Ok (Trade x)), trade_short x h)
+  facts_short (Ok (Cancel x)) h = simp length-append (omega (arith, name_short (Ok (Cancel x)), side_short x.side h))
+  facts_short (Ok (Error x)) h = simp length-append (omega (arith, name_short (Ok (Error x)), side_short x.side h))
+  facts_short (Ok (Correction x)) h = simp length-append (omega (arith, name_short (Ok (Correction x)), side_short x.original h.0, side_short x.correcting h.1))
+  facts_short (Err r) h = omega (arith, name_short (Err r))
 
 -- ---- the line
 

@@ -6,15 +6,15 @@ use mathlib.Core.Bool.{Bool, true, false}
 use mathlib.Core.List.{List}
 use lib.Dec.{eqb}
 use lib.ListN.{drop}
+use Rattle.std.specs.Prelude.{Option, Some, None}
 use Rattle.text.specs.Bytes.{bytes}
 use Rattle.text.specs.Pick.{pick}
 use Rattle.text.specs.Reading.{starts}
 use Rattle.print_price.specs.Sound.{Sound}
-use Rattle.read_price.specs.declared.PriceAnswer.{PriceAnswer}
-use Rattle.read_price.specs.declared.PriceAnswer.TheVariants.{Priced, NoPrice}
 use Rattle.read_price.specs.Digits.{digits_at}
 use Rattle.read_price.proofs.Bounds.{digits_below}
 use Rattle.read_price.proofs.Text.{price_sound}
+use Rattle.read_price.specs.declared.PriceRead.{PriceRead}
 use Rattle.rules.specs.declared.Side.{Side}
 use Rattle.read_conditions.specs.declared.Taken.{Taken}
 use Rattle.read_conditions.specs.Tail.{plus_cash, plus_average, plus_stopped, plus_seller, side_with, further, cash_at, average_at, stopped_at, seller_days, seller_by, seller_at, rule_at, previous_in, previous_by, previous_at, after_price_at, at_end_at, tail_at}
@@ -75,10 +75,10 @@ module _ (s : List ℕ) (st : Taken) where
 
   -- ---- the previous last
 
-  by_previous : (st : Taken) (x : PriceAnswer) → previous_in (drop st.used s) ≡ x → Sound st.side.previous → Sound (previous_by st x).side.previous
+  by_previous : (st : Taken) (x : Option PriceRead) → previous_in (drop st.used s) ≡ x → Sound st.side.previous → Sound (previous_by st x).side.previous
   unfolding previous_by further side_with
-  by_previous st NoPrice e h = h
-  by_previous st (Priced p) e h = price_sound _ p (previous_found (drop st.used s) p e).price
+  by_previous st None e h = h
+  by_previous st (Some p) e h = price_sound _ p (previous_found (drop st.used s) p e).price
 
   pub tail_previous : Sound st.side.previous → Sound (tail_at s st).side.previous
   unfolding tail_at at_end_at after_price_at previous_at side_with v w x y z

@@ -18,8 +18,8 @@ ghost use Rattle.reader.specs.Told.{length_of, part_in, fact_in};
 ghost use Rattle.facts_side.specs.Sound.{SoundSide};
 ghost use Rattle.read_told.specs.Lines.{announcement_text, among_text, correction_text, facts_text, place_text, name_text, line_text, print_line, told_line};
 
-use reader::ReadAnswer;
-use rules::Side;
+use reader::Print;
+use rules::{Refusal, Side};
 
 // ---- the facts of a print
 
@@ -69,20 +69,19 @@ fn write_correction(rest: &mut [u8], x: Side, y: Side) -> usize
 }
 
 // Of the answer r at a place; a refusal has none.
-fn write_facts(rest: &mut [u8], tape: &[u8], place: usize, r: ReadAnswer) -> usize
+fn write_facts(rest: &mut [u8], tape: &[u8], place: usize, r: Result<Print, Refusal>) -> usize
     requires { (r ≡ read_at tape.now place) × (length (facts_text (fact_in (drop place tape.now) r)) ≤ length rest.old) }
     ensures { Written (facts_text (fact_in (drop place tape.now) r)) rest.old rest.new result }
 {
-    match r {
-        ReadAnswer::Announcement(n) => {
-            let to = place + n;
-            write_announcement(rest, &tape[place..to])
-        }
-        ReadAnswer::Trade(x) => write_trade(rest, x.side),
-        ReadAnswer::Cancel(x) => write_among(rest, b"X side(", x.side, b")"),
-        ReadAnswer::Error(x) => write_among(rest, b"E side(", x.side, b")"),
-        ReadAnswer::Correction(x) => write_correction(rest, x.original, x.correcting),
-        ReadAnswer::Refused(x) => text::write_bytes(rest, b"-"),
+    let Ok(print) = r else {
+        return text::write_bytes(rest, b"-");
+    };
+    match print {
+        Print::Announcement(n) => write_announcement(rest, &tape[place..place + n]),
+        Print::Trade(x) => write_trade(rest, x.side),
+        Print::Cancel(x) => write_among(rest, b"X side(", x.side, b")"),
+        Print::Error(x) => write_among(rest, b"E side(", x.side, b")"),
+        Print::Correction(x) => write_correction(rest, x.original, x.correcting),
     }
 }
 
@@ -111,7 +110,7 @@ fn write_line(
     part: &[u8],
     at: usize,
     place: u64,
-    r: ReadAnswer,
+    r: Result<Print, Refusal>,
     n: usize,
     name: &[u8],
 ) -> usize
@@ -130,7 +129,7 @@ pub fn write_print(
     part: &[u8],
     at: usize,
     place: u64,
-    r: ReadAnswer,
+    r: Result<Print, Refusal>,
     n: usize,
 ) -> usize
     requires { (r ≡ read_at part.now at) × (n ≡ length_of r) × (length (print_line place (drop at part.now)) ≤ length rest.old) }

@@ -29,5 +29,5 @@ returns-in-Error c = search arms
 pub returns-in-Correction : goal.returns-in-Correction
 returns-in-Correction c = search arms
 
-pub returns-in-Refused : goal.returns-in-Refused
-returns-in-Refused c = search arms
+pub returns-in_default : goal.returns-in_default
+returns-in_default c = search arms

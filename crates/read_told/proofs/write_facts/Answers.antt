@@ -3,8 +3,8 @@ use Rattle.read_told.proofs.Lines.{told, ends}
 use Rattle.read_told.proofs.Sound.{sounds}
 use Rattle.read_told.proofs.write_facts.Goals as goal
 
-pub overflow_add-to : goal.overflow_add-to
-overflow_add-to c = search ends
+pub overflow_add-place : goal.overflow_add-place
+overflow_add-place c = search ends
 
 pub slice_bounds-write_announcement-end : goal.slice_bounds-write_announcement-end
 slice_bounds-write_announcement-end c = search ends
@@ -42,5 +42,5 @@ returns-in-Error c = search (named, told)
 pub returns-in-Correction : goal.returns-in-Correction
 returns-in-Correction c = search (named, told)
 
-pub returns-in-Refused : goal.returns-in-Refused
-returns-in-Refused c = search (named, told)
+pub returns-in_default : goal.returns-in_default
+returns-in_default c = search (named, told)
