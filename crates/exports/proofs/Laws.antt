@@ -2,6 +2,7 @@
 use Prim.Native.Nat.{ℕ}
 use mathlib.Core.Path.{◌≡◌, ◌∙◌, ap}
 use mathlib.Core.List.{List}
+use Rattle.std.specs.Prelude.{Result}
 use Rattle.rules.specs.Day.{tape_of}
 use Rattle.rules.specs.Refusal.{number_of}
 use Rattle.rules.specs.Shown.{shown_by}
@@ -13,10 +14,9 @@ use Rattle.facts_entry.specs.Entry.{fact_in}
 use Rattle.facts_numbers.specs.Numbers.{entry_numbers}
 use Rattle.engine.specs.declared.Answer.{Answer}
 use Rattle.engine.specs.Taken.{Taken, answer_of, count_of}
-use Rattle.reader.specs.declared.ReadAnswer.{ReadAnswer}
-use Rattle.reader.specs.declared.ReadAnswer.TheVariants as read
 use Rattle.reader.specs.Read.{read_at}
 use Rattle.reader.specs.Told.{answer_number}
+use Rattle.reader.specs.declared.Print.{Print}
 use Rattle.read_numbers.specs.Numbers.{numbers_at}
 use Rattle.exports.specs.Numbers.{numbers_of, settings_of, left_by, TakenNumbers}
 use Rattle.exports.specs.Reading.{ReadNumbers}
@@ -51,8 +51,5 @@ shown_numbers numbers table names line room st e numbers' g f h =
 
 -- ---- the reader
 
-pub read_refused : (r : ReadAnswer) (x : Refusal) (n : ℕ) → r ≡ read.Refused x → n ≡ number_of x → n ≡ answer_number r
-read_refused r x n e f = rw e f
-
-pub read_numbers : (tape : List ℕ) (place : ℕ) (r : ReadAnswer) (numbers' : List ℕ) (answer : ℕ) → r ≡ read_at tape place → numbers' ≡ numbers_at tape place → answer ≡ answer_number r → ReadNumbers tape place numbers' answer
+pub read_numbers : (tape : List ℕ) (place : ℕ) (r : Result Print Refusal) (numbers' : List ℕ) (answer : ℕ) → r ≡ read_at tape place → numbers' ≡ numbers_at tape place → answer ≡ answer_number r → ReadNumbers tape place numbers' answer
 read_numbers tape place r numbers' answer e f g = record { numbers_are = f; answer_is = rw (← e) g }

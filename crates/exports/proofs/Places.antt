@@ -4,25 +4,22 @@ use native.Mathlib.Omega.{arith}
 use mathlib.Core.Path.{◌≡◌, refl, ap}
 use mathlib.Core.List.{List}
 use lib.ListN.{drop}
+use Rattle.std.specs.Prelude.{Result, Ok, Err}
 use Rattle.rules.specs.Refusal.{number_of}
-use Rattle.reader.specs.declared.ReadAnswer.{ReadAnswer}
-use Rattle.reader.specs.declared.ReadAnswer.TheVariants.{Announcement, Trade, Cancel, Error, Correction, Refused}
+use Rattle.rules.specs.declared.Refusal.{Refusal}
 use Rattle.reader.specs.Read.{read_at}
 use Rattle.reader.specs.Told.{answer_number, length_of, name_from, name_length, fact_in}
 use Rattle.read_numbers.specs.Numbers.{fact_numbers, numbers_of, numbers_at}
 use Rattle.reader.proofs.Numbers.{refused_by}
+use Rattle.reader.specs.declared.Print.{Print}
 use Rattle.exports.specs.Reading.{ReadNumbers, Unread}
 
 module _ (tape : List ℕ) (place : ℕ) where
   -- by the answer r
-  unread_by : (r : ReadAnswer) → read_at tape place ≡ r → 1 ≤ answer_number r → Unread tape place (numbers_of (drop place tape) r) (answer_number r)
+  unread_by : (r : Result Print Refusal) → read_at tape place ≡ r → 1 ≤ answer_number r → Unread tape place (numbers_of (drop place tape) r) (answer_number r)
   unfolding number_of numbers_of length_of name_from name_length fact_in fact_numbers
-  unread_by (Announcement n) e h = absurd (omega arith)
-  unread_by (Trade x) e h = absurd (omega arith)
-  unread_by (Cancel x) e h = absurd (omega arith)
-  unread_by (Error x) e h = absurd (omega arith)
-  unread_by (Correction x) e h = absurd (omega arith)
-  unread_by (Refused r) e h = record {
+  unread_by (Ok print) e h = absurd (omega arith)
+  unread_by (Err r) e h = record {
     answer_is = refused_by tape place r e;
     numbers_are = refl;
     facts_are = ap (fact_in (drop place tape)) e;

@@ -13,8 +13,8 @@ ghost use Rattle.exports.specs.Reading.{ReadNumbers};
 
 use call_table::{Names, Table};
 use engine::Outcome;
-use reader::ReadAnswer;
-use rules::{Mode, Settings};
+use reader::Print;
+use rules::{Mode, Refusal, Settings};
 
 // ---- settings as four numbers
 
@@ -55,16 +55,12 @@ fn leave(numbers: &mut [u64; 4], o: Outcome, st: Settings)
     }
 }
 
-fn read_answer(r: ReadAnswer) -> u64
+fn read_answer(r: Result<Print, Refusal>) -> u64
     ensures { result ≡ answer_number r }
 {
     match r {
-        ReadAnswer::Announcement(_) => 0,
-        ReadAnswer::Trade(_) => 0,
-        ReadAnswer::Cancel(_) => 0,
-        ReadAnswer::Error(_) => 0,
-        ReadAnswer::Correction(_) => 0,
-        ReadAnswer::Refused(x) => engine::number_of(x),
+        Ok(_) => 0,
+        Err(x) => u64::from(x),
     }
 }
 

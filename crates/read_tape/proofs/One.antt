@@ -8,12 +8,15 @@ use lib.Dec.{leb}
 use lib.ListN.{length, take, drop, length-append}
 use mir.Val.{Fits}
 use mir.Syntax.{w64}
+use Rattle.std.specs.Prelude.{Result}
 use Rattle.text.specs.Put.{Written}
 use Rattle.text.proofs.Writing.{then}
 use Rattle.rules.specs.Sizes.{longest_print}
+use Rattle.rules.specs.declared.Refusal.{Refusal}
 use Rattle.text_right.proofs.Writes.{length_right}
 use Rattle.reader.specs.Read.{print_at, read_at}
 use Rattle.reader.specs.Told.{length_of}
+use Rattle.reader.specs.declared.Print.{Print}
 use Rattle.claim_longest.proofs.Ahead.{read_short, ahead}
 use Rattle.read_tape.specs.Tape.{Line, Tells, line_of, place_line}
 use Rattle.read_tape.specs.Block.{print_read, Steps}
