@@ -7,8 +7,10 @@ use lib.ListN.{length}
 use Rattle.reader.specs.Read.{read_at}
 use Rattle.reader.specs.Told.{length_of}
 use Rattle.reader.proofs.Bounds.{read_length}
+use Rattle.reader.specs.declared.Print.{Print}
 use Rattle.read_told.specs.Lines.{told_line}
 use Rattle.read_told.proofs.Short.{told_short}
+use Rattle.rules.specs.declared.Refusal.{Refusal}
 
 pub line_room : (tape : List ℕ) (place m : ℕ) → length tape ≤ 8192 → place < length tape → 8704 ≤ m → length (told_line tape place) ≤ m
 line_room tape place m h k l = omega (arith, told_short tape place (omega arith) (omega arith), l)
