@@ -34,6 +34,7 @@ fn digits_in(s: &[u8]) -> u64
 }
 
 // Behind the 29 bytes that begin either text: at most k bytes, 0 where they are fewer.
+// Kept: 0 is below every level, and so is refused with the numbers out of range; an `Option` would be one case more.
 fn number_at(s: &[u8], k: usize) -> u64
     requires { k ≤ 7 }
     ensures { result ≡ number_at k s.now }
@@ -46,6 +47,8 @@ fn number_at(s: &[u8], k: usize) -> u64
 }
 
 // ---- a text with a number: its length, where it stands
+
+// Kept: `minimum_at` and `level_at` write different texts; a closure over a lent tape would be no plainer.
 
 #[tactic(auto, unfolding(crate::specs::Announced::length_at, text::specs::Pick::pick))]
 fn text_at(t: &[u8], s: &[u8]) -> Option<usize>

@@ -94,7 +94,7 @@ fn stopped_at(s: &[u8], st: Taken) -> Taken
 
 // ---- at the end
 
-// The days behind SELLER; none where it does not stand.
+// The days behind SELLER; no digits where it does not stand.
 fn seller_days(s: &[u8], at: usize) -> Digits
     requires { at ≤ length s.now }
     ensures { result ≡ seller_days (drop at s.now) }

@@ -146,6 +146,7 @@ fn is_name_alone(temporary: bool, name: &[u8]) -> bool
 }
 
 // The name of a security on the network, 65 or 66.
+// Kept: a network is its letter's number everywhere in the rules.
 #[tactic(auto, unfolding(crate::specs::Name::name_on, crate::specs::Name::appendage_of, text::specs::Pick::pick))]
 fn name_on(temporary: bool, network: u64, name: &[u8]) -> bool
     ensures { result ≡ name_on temporary network name.now }

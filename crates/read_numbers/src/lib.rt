@@ -27,11 +27,7 @@ pub struct SideNumbers {
 fn bit(there: bool, n: u64) -> u64
     ensures { (result ≡ pick there n 0) × (result ≤ n) }
 {
-    if there {
-        n
-    } else {
-        0
-    }
+    if there { n } else { 0 }
 }
 
 // O the lowest bit, then S L M K R B T J G.
@@ -113,7 +109,14 @@ fn print_numbers(kind: u64, p: PrintRead) -> [u64; 14]
     requires { SoundSide p.side }
     ensures { result ≡ p.length ∷ p.from ∷ (p.to - p.from) ∷ kind_and_sides kind (part_numbers (part_in p.side)) no_side }
 {
-    gathered(p.length, p.from, p.to, kind, side_numbers(p.side), no_side())
+    gathered(
+        p.length,
+        p.from,
+        p.to,
+        kind,
+        side_numbers(p.side),
+        no_side(),
+    )
 }
 
 fn correction_numbers(p: CorrectionRead) -> [u64; 14]

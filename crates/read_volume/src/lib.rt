@@ -137,6 +137,7 @@ fn explains_shares(network: u64, unit: u64, n: u64) -> bool
 }
 
 // Some volume prints so on the network, with the unit of trading.
+// Kept: a network is its letter's number everywhere in the rules.
 #[tactic(auto, unfolding(crate::specs::Volume::explains))]
 fn explains(network: u64, unit: u64, v: Volume) -> bool
     requires { 1 ≤ unit }

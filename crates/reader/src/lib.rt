@@ -137,9 +137,7 @@ fn cancel_at(s: &[u8], error: bool) -> Result<Print, Refusal>
         return Err(Refusal::NoPrint);
     };
     let side = x.taken.side;
-    let Some(length) = end_at(s, at + x.taken.used, side) else {
-        return Err(Refusal::NoPrint);
-    };
+    let length = end_at(s, at + x.taken.used, side).ok_or(Refusal::NoPrint)?;
     let to = 6 + h.length;
     let read = PrintRead {
         length,
@@ -189,9 +187,7 @@ fn second_at(s: &[u8], h: NameRead, x: SideRead, n: usize) -> Result<Print, Refu
     if !repeats_duly(correcting.letters, again.used) {
         return Err(Refusal::NoPrint);
     }
-    let Some(length) = end_at(s, at + y.taken.used, correcting) else {
-        return Err(Refusal::NoPrint);
-    };
+    let length = end_at(s, at + y.taken.used, correcting).ok_or(Refusal::NoPrint)?;
     Ok(Print::Correction(CorrectionRead {
         length,
         from: 7,
@@ -224,9 +220,7 @@ fn print_at(s: &[u8]) -> Result<Print, Refusal>
     ensures { result ≡ print_at s.now }
 {
     if text::begins(b"<<<", s) {
-        let Some(length) = read_announcement::announcement_at(s) else {
-            return Err(Refusal::NoPrint);
-        };
+        let length = read_announcement::announcement_at(s).ok_or(Refusal::NoPrint)?;
         Ok(Print::Announcement(length))
     } else if text::begins(b"<<CORR.", s) {
         correction_at(s)
