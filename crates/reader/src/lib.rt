@@ -92,9 +92,7 @@ fn first_side(s: &[u8], n: usize, h: NameRead) -> Result<SideRead, Refusal>
 fn trade_at(s: &[u8]) -> Result<Print, Refusal>
     ensures { result ≡ trade_at s.now }
 {
-    let Some(h) = head_from(s, 0, true) else {
-        return Err(Refusal::NoPrint);
-    };
+    let h = head_from(s, 0, true).ok_or(Refusal::NoPrint)?;
     let Ok(x) = first_side(s, h.used, h) else {
         return Err(Refusal::NoPrint);
     };
@@ -129,9 +127,7 @@ fn cancel_at(s: &[u8], error: bool) -> Result<Print, Refusal>
     requires { 6 ≤ length s.now }
     ensures { result ≡ cancel_at s.now error }
 {
-    let Some(h) = head_from(s, 6, false) else {
-        return Err(Refusal::NoPrint);
-    };
+    let h = head_from(s, 6, false).ok_or(Refusal::NoPrint)?;
     let at = 6 + h.used;
     let Ok(x) = first_side(s, at, h) else {
         return Err(Refusal::NoPrint);
@@ -171,9 +167,7 @@ fn second_at(s: &[u8], h: NameRead, x: SideRead, n: usize) -> Result<Print, Refu
     if !read_conditions::stands(s, n, b"WAS.") {
         return Err(Refusal::NoPrint);
     }
-    let Some(again) = again_from(s, n + 4, h.length) else {
-        return Err(Refusal::NoPrint);
-    };
+    let again = again_from(s, n + 4, h.length).ok_or(Refusal::NoPrint)?;
     let at = n + 4 + again.used;
     let head = Head {
         letters: again.letters,
@@ -202,9 +196,7 @@ fn correction_at(s: &[u8]) -> Result<Print, Refusal>
     requires { 7 ≤ length s.now }
     ensures { result ≡ correction_at s.now }
 {
-    let Some(h) = head_from(s, 7, false) else {
-        return Err(Refusal::NoPrint);
-    };
+    let h = head_from(s, 7, false).ok_or(Refusal::NoPrint)?;
     let at = 7 + h.used;
     let Ok(x) = first_side(s, at, h) else {
         return Err(Refusal::NoPrint);
