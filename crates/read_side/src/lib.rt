@@ -2,7 +2,8 @@
 // conditions, with the networks on which one line could print it. One reader for T, C, X and E.
 #![tactic(auto)]
 
-ghost use Rattle.std.specs.Prelude.{◌≡◌, ◌&&◌, ◌≤◌, length};
+ghost use Rattle.std.specs.Prelude.{◌≡◌, ◌&&◌, ◌≤◌, length, IfErr};
+ghost use Rattle.rules.specs.declared.Refusal.TheVariants.{NoPrint};
 ghost use Rattle.read_volume.specs.Volume.{explained};
 ghost use Rattle.read_side.specs.Side.{head_count, beside, side_with, side_at};
 
@@ -62,7 +63,8 @@ fn side_with(
     used: usize,
 ) -> Result<SideRead, Refusal>
     requires { used ≤ length part.now }
-    ensures { result ≡ side_with first head.letters head.a head.b part.now v used }
+    ensures is { result ≡ side_with first head.letters head.a head.b part.now v used }
+    ensures refused { IfErr result (λ r. r ≡ NoPrint) }
 {
     let x = volume_beside(first, v);
     let a = allowed(head.a, 65, x, v);
@@ -94,7 +96,8 @@ fn side_with(
 // With a volume shown; what is refused so, for whatever part, is tried once more without.
 #[tactic(auto, unfolding(crate::specs::Side::side_at, crate::specs::Side::said_side, crate::specs::Side::or_else))]
 pub fn side_at(first: Option<Volume>, head: Head, part: &[u8]) -> Result<SideRead, Refusal>
-    ensures { result ≡ side_at first head.letters head.a head.b part.now }
+    ensures is { result ≡ side_at first head.letters head.a head.b part.now }
+    ensures refused { IfErr result (λ r. r ≡ NoPrint) }
 {
     if let Some(v) = read_volume::volume_at(part) {
         if let Ok(x) = side_with(first, head, part, v.volume, v.used) {

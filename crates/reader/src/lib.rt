@@ -1,7 +1,8 @@
 // The reader (document 01, "Reader"): the longest normal print at a place of a tape, its undivided name and its facts.
 #![tactic(auto)]
 
-ghost use Rattle.std.specs.Prelude.{◌≡◌, ◌+◌, ◌≤◌, leb, length, take, drop, IfSome, IfOk};
+ghost use Rattle.std.specs.Prelude.{◌≡◌, ◌+◌, ◌≤◌, leb, length, take, drop, IfSome, IfOk, IfErr};
+ghost use Rattle.rules.specs.declared.Refusal.TheVariants.{NoPrint};
 ghost use Rattle.rules.specs.Correction.{repeats_name};
 ghost use Rattle.rules.specs.Line.{alike};
 ghost use Rattle.read_name.specs.Head.{head_at, again_at};
@@ -67,6 +68,7 @@ fn side_from(s: &[u8], n: usize, first: Option<Volume>, head: Head) -> Result<Si
     requires { n ≤ length s.now }
     ensures is { result ≡ side_at first head.letters head.a head.b (drop n s.now) }
     ensures within { IfOk result (λ x. n + x.taken.used ≤ length s.now) }
+    ensures refused { IfErr result (λ r. r ≡ NoPrint) }
 {
     read_side::side_at(first, head, &s[n..])
 }
@@ -76,6 +78,7 @@ fn first_side(s: &[u8], n: usize, h: NameRead) -> Result<SideRead, Refusal>
     requires { n ≤ length s.now }
     ensures is { result ≡ side_at None h.letters h.a h.b (drop n s.now) }
     ensures within { IfOk result (λ x. n + x.taken.used ≤ length s.now) }
+    ensures refused { IfErr result (λ r. r ≡ NoPrint) }
 {
     let head = Head {
         letters: h.letters,
@@ -93,9 +96,7 @@ fn trade_at(s: &[u8]) -> Result<Print, Refusal>
     ensures { result ≡ trade_at s.now }
 {
     let h = head_from(s, 0, true).ok_or(Refusal::NoPrint)?;
-    let Ok(x) = first_side(s, h.used, h) else {
-        return Err(Refusal::NoPrint);
-    };
+    let x = first_side(s, h.used, h)?;
     Ok(Print::Trade(PrintRead {
         length: h.used + x.taken.used,
         from: 0,
@@ -129,9 +130,7 @@ fn cancel_at(s: &[u8], error: bool) -> Result<Print, Refusal>
 {
     let h = head_from(s, 6, false).ok_or(Refusal::NoPrint)?;
     let at = 6 + h.used;
-    let Ok(x) = first_side(s, at, h) else {
-        return Err(Refusal::NoPrint);
-    };
+    let x = first_side(s, at, h)?;
     let side = x.taken.side;
     let length = end_at(s, at + x.taken.used, side).ok_or(Refusal::NoPrint)?;
     let to = 6 + h.length;
@@ -174,9 +173,7 @@ fn second_at(s: &[u8], h: NameRead, x: SideRead, n: usize) -> Result<Print, Refu
         a: x.taken.a,
         b: x.taken.b,
     };
-    let Ok(y) = side_from(s, at, Some(x.volume), head) else {
-        return Err(Refusal::NoPrint);
-    };
+    let y = side_from(s, at, Some(x.volume), head)?;
     let correcting = y.taken.side;
     if !repeats_duly(correcting.letters, again.used) {
         return Err(Refusal::NoPrint);
@@ -198,9 +195,7 @@ fn correction_at(s: &[u8]) -> Result<Print, Refusal>
 {
     let h = head_from(s, 7, false).ok_or(Refusal::NoPrint)?;
     let at = 7 + h.used;
-    let Ok(x) = first_side(s, at, h) else {
-        return Err(Refusal::NoPrint);
-    };
+    let x = first_side(s, at, h)?;
     second_at(s, h, x, at + x.taken.used)
 }
 
