@@ -16,7 +16,7 @@ use Rattle.text.specs.Bytes.{bytes}
 use Rattle.text.specs.Pick.{same, among, member}
 use Rattle.text.specs.Reading.{starts}
 use Rattle.text.proofs.Booleans.{and_true, and_false}
-use Rattle.text.proofs.Std.{pointwise_same}
+use Rattle.text.proofs.Std.{pointwise_same, eqb_turned}
 use Rattle.text.proofs.Parts.{starts_within}
 use Rattle.rules.specs.Columns.{word, left_justified}
 use Rattle.rules.specs.Names.{is_series, lawful_field}
@@ -61,9 +61,6 @@ module _ (listed : List ℕ → Bool) (s : List ℕ) (q : Bool) (e : q ≡ left_
   listed_text n r y w z k = rw (← e, y, unlike_nothing (word s) (λ h. z (w.count_is ∙ h))) k
 
 -- ---- listed texts
-
-eqb_turned : (a b : ℕ) → eqb a b ≡ eqb b a
-eqb_turned a b = elim (cases_eq a b) [ inl e ↦ rw e | inr n ↦ rw (ne_eqb a b n, ne_eqb b a (λ e. n (sym e))) ]
 
 same_turned : (s t : List ℕ) → same s t ≡ same t s
 unfolding same

@@ -136,24 +136,14 @@ fn lay_name(rest: &mut [u8], name: &[u8], temporary: bool) -> usize
     c + lay_shown(&mut rest[c..], &name[17..19], true)
 }
 
-// N bytes, read by the move.
-fn taken<const N: usize>(s: &[u8], from: usize) -> [u8; N]
-    requires { from + N ≤ length s.now }
-    ensures { result ≡ take N (drop from s.now) }
-{
-    let mut bytes = [0u8; N];
-    bytes.copy_from_slice(&s[from..from + N]);
-    bytes
-}
-
 // The first n of sixteen bytes and more, where the tape has 32. A fixed number of bytes is written, then those that stood
 // behind the text are put back; all are read before the first is written.
 fn write_sixteen(rest: &mut [u8], laid: &[u8], n: usize) -> usize
     requires { (n ≤ 16) × (16 ≤ length laid.now) × (32 ≤ length rest.old) }
     ensures { Written (take n laid.now) rest.old rest.new result }
 {
-    let kept: [u8; 16] = taken(rest, n);
-    let new: [u8; 16] = taken(laid, 0);
+    let kept: [u8; 16] = text::taken(rest, n);
+    let new: [u8; 16] = text::taken(laid, 0);
     text::write_bytes(rest, &new);
     text::write_bytes(&mut rest[n..], &kept);
     n

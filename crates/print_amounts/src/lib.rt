@@ -13,17 +13,6 @@ ghost use Rattle.print_amounts.specs.Columns.{VolumeColumns, PriceColumns};
 
 use rules::{Price, PriceForm};
 
-// ---- bytes by the move
-
-fn taken<const N: usize>(s: &[u8], from: usize) -> [u8; N]
-    requires { from + N ≤ length s.now }
-    ensures { result ≡ take N (drop from s.now) }
-{
-    let mut bytes = [0u8; N];
-    bytes.copy_from_slice(&s[from..from + N]);
-    bytes
-}
-
 // ---- digits
 
 // 1 where a number is over a limit.
@@ -58,9 +47,9 @@ fn write_marked(
     ensures { Written (take k (drop from part.now) ++ take size (drop mark marks.now)) rest.old rest.new result }
 {
     let m = k + size;
-    let kept: [u8; 8] = taken(rest, m);
-    let digits: [u8; 4] = taken(part, from);
-    let last: [u8; 4] = taken(marks, mark);
+    let kept: [u8; 8] = text::taken(rest, m);
+    let digits: [u8; 4] = text::taken(part, from);
+    let last: [u8; 4] = text::taken(marks, mark);
     text::write_bytes(rest, &digits);
     text::write_bytes(&mut rest[k..], &last);
     text::write_bytes(&mut rest[m..], &kept);
@@ -132,9 +121,9 @@ fn write_columns(rest: &mut [u8], columns: &[u8], k: usize, d: usize, m: usize) 
 {
     let point = 14 - d;
     let from = point - k;
-    let kept: [u8; 16] = taken(rest, m);
-    let dollars: [u8; 8] = taken(columns, from);
-    let part: [u8; 8] = taken(columns, point);
+    let kept: [u8; 16] = text::taken(rest, m);
+    let dollars: [u8; 8] = text::taken(columns, from);
+    let part: [u8; 8] = text::taken(columns, point);
     text::write_bytes(rest, &dollars);
     rest[k] = b',';
     text::write_bytes(&mut rest[k + 1..], &part);

@@ -28,7 +28,7 @@ starts_with_starts [] s = refl
 starts_with_starts (a ∷ p) [] = refl
 starts_with_starts (a ∷ p) (c ∷ s) = ap (λ t. eqb a c && t) (starts_with_starts p s)
 
-eqb_turned : (a b : ℕ) → eqb a b ≡ eqb b a
+pub eqb_turned : (a b : ℕ) → eqb a b ≡ eqb b a
 eqb_turned a b = elim (cases_eq a b) [ inl e ↦ rw e | inr n ↦ rw (ne_eqb a b n, ne_eqb b a (λ e. n (sym e))) ]
 
 -- `s.contains(&c)`

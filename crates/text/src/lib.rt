@@ -2,18 +2,11 @@
 // after the bytes already written, puts its text at the part's start and returns the text's length.
 #![tactic(auto)]
 
-ghost use Rattle.std.specs.Prelude.{◌≡◌, ◌≤◌, length};
+ghost use Rattle.std.specs.Prelude.{◌≡◌, ◌+◌, ◌≤◌, length, take, drop};
 ghost use Rattle.text.specs.Pick.{among, opt, same};
 ghost use Rattle.text.specs.Put.{Written};
 ghost use Rattle.text.specs.Decimal.{places, decimal};
 ghost use Rattle.text.specs.Reading.{starts};
-
-// A byte as a number.
-pub fn wide(b: u8) -> u64
-    ensures { result ≡ b }
-{
-    b as u64
-}
 
 pub fn write_bytes(rest: &mut [u8], text: &[u8]) -> usize
     requires { length text.now ≤ length rest.old }
@@ -55,6 +48,16 @@ pub fn write_decimal(rest: &mut [u8], n: u64) -> usize
 {
     let k = decimal_length(n);
     write_places(rest, n, k)
+}
+
+// N bytes from a place on, read by the move.
+pub fn taken<const N: usize>(s: &[u8], from: usize) -> [u8; N]
+    requires { from + N ≤ length s.now }
+    ensures { result ≡ take N (drop from s.now) }
+{
+    let mut bytes = [0u8; N];
+    bytes.copy_from_slice(&s[from..from + N]);
+    bytes
 }
 
 // Two texts are the same.
