@@ -22,6 +22,7 @@ impl TellPrint for FactLines {
 
     ghost line = { print_line };
 
+    #[tactic(auto, using(crate::proofs::Facts::line_room))]
     fn tell(block: &[u8], at: usize, place: u64, rest: &mut [u8]) -> Told {
         let answer = reader::read_at(block, at);
         let print = reader::length_of(answer);

@@ -4,14 +4,11 @@ use native.Mathlib.Omega.{arith}
 use mathlib.Core.Path.{◌≡◌, refl, sym, ◌∙◌, subst}
 use mathlib.Core.Bool.{Bool, true, false}
 use mathlib.Core.List.{List}
-use lib.Dec.{eqb}
 use lib.ListN.{length}
-use mir.Syntax.{w64}
-use mir.Val.{Fits}
 use Rattle.text.specs.Pick.{pick}
 use Rattle.text.proofs.Writing.{written_nothing}
 use Rattle.feed_input.specs.declared.Place.{Place}
-use Rattle.feed_input.specs.Place.{Answer, Within, held, taken_in, GoesOn}
+use Rattle.feed_input.specs.Place.{Answer, Within, held, taken_in}
 use Rattle.feed_input.proofs.Held.{length_held, in_within}
 use Rattle.read_tape.specs.declared.Reading.{Reading}
 use Rattle.read_tape.specs.Tape.{Line}
@@ -19,7 +16,7 @@ use Rattle.read_tape.specs.Block.{block_read, Stands}
 use Rattle.read_tape.proofs.LookAhead.{block_within, block_placed}
 use Rattle.read_step.specs.declared.Standing.{Standing}
 use Rattle.read_step.specs.declared.Stepped.{Stepped}
-use Rattle.read_step.specs.Step.{is_over, standing_on, block_over, failing, telling, step_from, step_of, Further, Steps}
+use Rattle.read_step.specs.Step.{is_over, failing, telling, step_from, step_of, Further, Steps}
 
 -- ---- is_over
 
@@ -31,24 +28,6 @@ module _ (going : Bool) (n : ℕ) (ended : Bool) where
       go : (b : Bool) → going ≡ b → going ≡ true
       go true e = e
       go false e = absurd (let z : ◌≡◌ {A = ℕ} 0 1 = cc in omega arith)
-
--- ---- go_further
-
-module _ (p : Place) (at : ℕ) (r : Reading) (block : List ℕ) (over : Bool) (is : over ≡ is_over r.going r.at p.ended) where
-  pub further_over : over ≡ true → Further p at r block block (record { standing = record { place = p; at = at }; count = r.written; over = true })
-  unfolding standing_on block_over pick
-  further_over e =
-      let t : is_over r.going r.at p.ended ≡ true = sym is ∙ e in
-      record { standing_is = rw t; over_is = sym t; block_is = rw t; count_is = refl }
-
-  pub further_fits : over ≡ false → (r.going ≡ true → at + r.at ≤ 9999999999) → Fits w64 (at + r.at)
-  further_fits e h = record { fits = omega (arith, h (not_over r.going r.at p.ended (sym is ∙ e))) }
-
-  pub further_on : over ≡ false → (q : Place) (block' : List ℕ) → GoesOn (eqb r.at 0) p r.at block block' q → Further p at r block block' (record { standing = record { place = q; at = at + r.at }; count = r.written; over = false })
-  unfolding standing_on block_over pick
-  further_on e q block' g =
-      let t : is_over r.going r.at p.ended ≡ false = sym is ∙ e in
-      record { standing_is = rw (t, g.place_is); over_is = sym t; block_is = rw t g.block_is; count_is = refl }
 
 -- ---- step
 

@@ -46,6 +46,7 @@ fn is_over(r: Reading, ended: bool) -> bool
 
 // Behind the reading of what is held, whose first byte stands at a place on the tape: over, or where the next step begins. Where
 // no print was read, a read comes next.
+#[tactic(auto, unfolding(crate::specs::Step::is_over, crate::specs::Step::standing_on, crate::specs::Step::block_over, text::specs::Pick::pick), using(crate::proofs::Ways::not_over))]
 fn go_further(p: Place, at: u64, r: Reading, block: &mut [u8]) -> Stepped
     requires { (p.at + r.at ≤ p.have) × (p.have ≤ length block.old) × (r.going ≡ true → at + r.at ≤ 9999999999) }
     ensures { Further p at r block.old block.new result }
@@ -69,6 +70,7 @@ fn go_further(p: Place, at: u64, r: Reading, block: &mut [u8]) -> Stepped
 
 // The answer of a read, where one was asked for; then the prints of what is held, as many as may be told and as there is room for.
 // A failed read ends it: nothing more is told.
+#[tactic(auto, using(crate::proofs::Ways::step_failed, crate::proofs::Ways::part_from, crate::proofs::Ways::part_end))]
 pub fn step_telling<T: TellPrint>(
     s: Standing,
     answer: Result<usize, ReadFailed>,

@@ -58,6 +58,7 @@ fn goes_on(place: u64, n: u64) -> bool
 }
 
 // The print where the reading stands; the block begins at a place of the tape.
+#[tactic(auto, using(crate::proofs::One::read_most, crate::proofs::One::read_adds))]
 fn tell_print<T: TellPrint>(block: &[u8], place: u64, r: Reading, lines: &mut [u8]) -> Reading
     requires { (r.at ≤ length block.now) × (place + r.at ≤ 9999999999) × (r.written ≤ length lines.old) × (T.MOST ≤ length lines.old - r.written) }
     ensures { Steps T.line block.now place lines.old r lines.new result }
@@ -102,6 +103,7 @@ pub fn tell_prints<T: TellPrint>(block: &[u8], place: u64, ended: bool, lines: &
 // Place and length, right-justified in ten columns each, and a line feed.
 pub struct PlaceLines;
 
+#[tactic(auto, unfolding(crate::specs::Tape::line_of), using(text::proofs::Writing::rooms))]
 fn write_line(rest: &mut [u8], place: u64, n: u64) -> usize
     requires { length (line_of place n) ≤ length rest.old }
     ensures { Written (line_of place n) rest.old rest.new result }
@@ -118,6 +120,7 @@ impl TellPrint for PlaceLines {
 
     ghost line = { place_line };
 
+    #[tactic(auto, using(crate::proofs::One::line_room, crate::proofs::One::line_is))]
     fn tell(block: &[u8], at: usize, place: u64, rest: &mut [u8]) -> Told {
         let print = reader::length_of(reader::read_at(block, at));
         Told {
