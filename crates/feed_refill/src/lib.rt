@@ -24,6 +24,7 @@ pub fn read_input<R: Read>(input: &mut R, p: Place, block: &mut [u8]) -> Result<
 }
 
 // Reads until the block is full, the input ends or a read fails, and answers how many bytes came.
+// Kept: std's `read_exact` says nothing of the bytes that came before the end.
 fn read_full<R: Read>(input: &mut R, block: &mut [u8]) -> usize
     ensures within { result ≤ length block.new }
     ensures taken { Consumes (R.remaining input.old) (R.remaining input.new) (take result block.new) }
@@ -40,6 +41,7 @@ fn read_full<R: Read>(input: &mut R, block: &mut [u8]) -> usize
 
 // Reads the file of that name into the block and answers how many bytes came, 0 where it cannot be opened. What is not UTF-8 names
 // no file.
+// Kept: to the callers an empty file is no file either.
 pub fn read_file<F: Files>(files: &F, name: &[u8], block: &mut [u8]) -> usize
     ensures { result ≤ length block.new }
 {
