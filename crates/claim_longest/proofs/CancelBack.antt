@@ -7,7 +7,6 @@ use mathlib.Core.List.{List, ◌++◌, append_assoc}
 use lib.ListN.{length, drop, length-append}
 use lib.Seq.{drop-drop, drop-append_seam}
 use Rattle.std.specs.Prelude.{Option, Some, None}
-use Rattle.text.proofs.Tests.{is_ne}
 use Rattle.text.specs.Pick.{pick, opt}
 use Rattle.text.specs.Reading.{heads}
 use Rattle.rules.specs.Tape.{is_upper}

@@ -9,7 +9,6 @@ use lib.Dec.{eqb, leb}
 use lib.ListN.{length, take, drop, length-append}
 use lib.Seq.{drop-append_seam, take-append_seam}
 use Rattle.std.specs.Prelude.{Option, Some, None, Ok}
-use Rattle.text.proofs.Tests.{is_ne}
 use borrow.Author.Tests.{eqb-true}
 use Rattle.text.specs.Pick.{pick, opt, among}
 use Rattle.text.specs.Reading.{heads}

@@ -44,7 +44,6 @@ use Rattle.read_name.specs.Head.{again_at}
 use Rattle.read_name.specs.declared.AgainRead.{AgainRead}
 use Rattle.text.specs.Reading.{heads}
 use Rattle.name_back.proofs.Back.{name_head}
-use Rattle.text.proofs.Tests.{is_ne}
 use Rattle.text.proofs.Parts.{heads_append}
 use Rattle.text.proofs.Booleans.{and_both, false_true}
 use Rattle.rules.specs.Tape.{is_letter}
