@@ -1,6 +1,6 @@
 use Rattle.std.proofs.Common.{refl}
 use Rattle.feed_gather.specs.Gather.{telling}
-use Rattle.feed_gather.proofs.Lines.{told_adds, line_told}
+use Rattle.feed_gather.proofs.Lines.{line_told}
 use Rattle.feed_gather.proofs.take_line.Goals as goal
 
 pub returns : goal.returns
