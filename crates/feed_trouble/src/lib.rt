@@ -8,14 +8,16 @@ ghost use Rattle.feed_trouble.specs.Trouble.{what_text, trouble_text};
 // A line has room in it: a name of at most 16 bytes, a unit of at most 8.
 pub const TROUBLE_ROOM: usize = 96;
 
+#[tactic(auto, unfolding(crate::specs::Trouble::what_text, text::specs::Pick::pick))]
 fn write_what(rest: &mut [u8], reading: bool) -> usize
     requires { length (what_text reading) ≤ length rest.old }
     ensures { Written (what_text reading) rest.old rest.new result }
 {
     if reading {
-        return text::write_bytes(rest, b": cannot read standard input after ");
+        text::write_bytes(rest, b": cannot read standard input after ")
+    } else {
+        text::write_bytes(rest, b": cannot write standard output after ")
     }
-    text::write_bytes(rest, b": cannot write standard output after ")
 }
 
 // The line, with its line feed; `unit` is `line ` or `place `.
