@@ -10,6 +10,7 @@ ghost use Rattle.call_print.specs.Print.{SoundPrint, SoundCancel, SoundCorrect, 
 
 use call_plan::{CancelPlan, CorrectionPlan, Plan, TradePlan};
 use call_table::Names;
+use print_side::Look;
 use rules::{FIRST_SIDE, LONGEST_PRINT, Refusal, SECOND_SIDE, SIDES_END, Settings};
 
 // ---- the print: its length, whether it fits, its writer
@@ -20,15 +21,13 @@ fn print_length(names: &Names, line: &[u8], t: TradePlan) -> usize
 {
     if t.prints {
         let name = call_table::name_at(names, t.place);
-        print_side::side_length(
-            name,
-            t.temporary,
-            t.network,
-            t.unit,
-            t.form,
-            t.shows,
-            t.side,
-        )
+        let look = Look {
+            network: t.network,
+            unit: t.unit,
+            form: t.form,
+            shows: t.shows,
+        };
+        print_side::side_length(name, t.temporary, look, t.side)
     } else {
         0
     }
@@ -39,7 +38,13 @@ fn cancel_length(names: &Names, line: &[u8], t: CancelPlan) -> usize
     ensures { result ≡ length (cancelled (name_text false (name_of names.now t.place)) t) }
 {
     let name = call_table::name_at(names, t.place);
-    print_amendment::cancel_length(t.error, name, t.network, t.unit, t.form, t.shows, t.side)
+    let look = Look {
+        network: t.network,
+        unit: t.unit,
+        form: t.form,
+        shows: t.shows,
+    };
+    print_amendment::cancel_length(t.error, name, look, t.side)
 }
 
 fn correction_length(names: &Names, line: &[u8], c: CorrectionPlan) -> usize
@@ -48,15 +53,13 @@ fn correction_length(names: &Names, line: &[u8], c: CorrectionPlan) -> usize
 {
     if c.prints {
         let name = call_table::name_at(names, c.place);
-        print_amendment::correction_length(
-            name,
-            c.network,
-            c.unit,
-            c.form,
-            c.shows,
-            c.original,
-            c.correcting,
-        )
+        let look = Look {
+            network: c.network,
+            unit: c.unit,
+            form: c.form,
+            shows: c.shows,
+        };
+        print_amendment::correction_length(name, look, c.original, c.correcting)
     } else {
         0
     }
@@ -98,14 +101,17 @@ fn write_print(rest: &mut [u8], names: &Names, line: &[u8], t: TradePlan) -> usi
 {
     if t.prints {
         let name = call_table::name_at(names, t.place);
+        let look = Look {
+            network: t.network,
+            unit: t.unit,
+            form: t.form,
+            shows: t.shows,
+        };
         print_side::write_side(
             rest,
             name,
             t.temporary,
-            t.network,
-            t.unit,
-            t.form,
-            t.shows,
+            look,
             t.side,
             &line[FIRST_SIDE..SECOND_SIDE],
         )
@@ -119,14 +125,17 @@ fn write_cancel(rest: &mut [u8], names: &Names, line: &[u8], t: CancelPlan) -> u
     ensures { Written (cancelled (name_text false (name_of names.now t.place)) t) rest.old rest.new result }
 {
     let name = call_table::name_at(names, t.place);
+    let look = Look {
+        network: t.network,
+        unit: t.unit,
+        form: t.form,
+        shows: t.shows,
+    };
     print_amendment::write_cancel(
         rest,
         t.error,
         name,
-        t.network,
-        t.unit,
-        t.form,
-        t.shows,
+        look,
         t.side,
         &line[FIRST_SIDE..SECOND_SIDE],
     )
@@ -138,13 +147,16 @@ fn write_correction(rest: &mut [u8], names: &Names, line: &[u8], c: CorrectionPl
 {
     if c.prints {
         let name = call_table::name_at(names, c.place);
+        let look = Look {
+            network: c.network,
+            unit: c.unit,
+            form: c.form,
+            shows: c.shows,
+        };
         print_amendment::write_correction(
             rest,
             name,
-            c.network,
-            c.unit,
-            c.form,
-            c.shows,
+            look,
             c.original,
             c.correcting,
             &line[FIRST_SIDE..SECOND_SIDE],

@@ -15,7 +15,8 @@ ghost use Rattle.call_trade.specs.Traded.{Decided, Fitted, Carried};
 
 use call_table::{Names, Table};
 use line_trade::TradeLine;
-use rules::{LONGEST_PRINT, Letters, Price, PriceForm, Security, Settings, Side};
+use print_side::Look;
+use rules::{LONGEST_PRINT, Letters, Price, Security, Settings, Side};
 
 // ---- letters: nothing is asked of them where none stands in the line (`marked` is false)
 
@@ -54,21 +55,11 @@ fn has_rule(marked: bool, x: Letters) -> bool
 // ---- the trade
 
 // The tape has room for the print; for any, where it has LONGEST_PRINT bytes.
-fn has_room(
-    room: usize,
-    name: &[u8],
-    temporary: bool,
-    network: u64,
-    unit: u64,
-    form: PriceForm,
-    shows: bool,
-    x: Side,
-) -> bool
-    requires { (length name.now ≡ name_width) × (1 ≤ unit) × OwedSide x }
-    ensures { result ≡ leb (length (side_text (name_text temporary name.now) network unit form shows x)) room }
+fn has_room(room: usize, name: &[u8], temporary: bool, look: Look, x: Side) -> bool
+    requires { (length name.now ≡ name_width) × (1 ≤ look.unit) × OwedSide x }
+    ensures { result ≡ leb (length (side_text (name_text temporary name.now) look.network look.unit look.form look.shows x)) room }
 {
-    LONGEST_PRINT <= room
-        || print_side::side_length(name, temporary, network, unit, form, shows, x) <= room
+    LONGEST_PRINT <= room || print_side::side_length(name, temporary, look, x) <= room
 }
 
 // A trade that prints: `value` is its price in units, `after` the security after it.
@@ -91,6 +82,12 @@ fn print_out(
 {
     let form = decide_trade::form_by(st, s, t.market, value / 100000000);
     let shows = decide_trade::shows_by(st, s, t.market, t.volume, lasts, rule);
+    let look = Look {
+        network: s.issue.network,
+        unit: s.issue.unit,
+        form,
+        shows,
+    };
     let temporary = decide_letters::shows_temporary(s);
     let name = call_table::name_at(names, place);
     let x = Side {
@@ -100,30 +97,11 @@ fn print_out(
         days: t.days,
         previous: Price { n: t.m, d: t.e },
     };
-    if !has_room(
-        tape.len(),
-        name,
-        temporary,
-        s.issue.network,
-        s.issue.unit,
-        form,
-        shows,
-        x,
-    ) {
+    if !has_room(tape.len(), name, temporary, look, x) {
         return None;
     }
     call_table::store(table, place, after);
-    let k = print_side::write_side(
-        tape,
-        name,
-        temporary,
-        s.issue.network,
-        s.issue.unit,
-        form,
-        shows,
-        x,
-        part,
-    );
+    let k = print_side::write_side(tape, name, temporary, look, x, part);
     Some(k)
 }
 

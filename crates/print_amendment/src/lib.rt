@@ -13,7 +13,8 @@ ghost use Rattle.print_amendment.specs.Original.{original_text};
 ghost use Rattle.rules.specs.Correction.{repeats_name, end_pair, correction_text, cancel_text, cancel_opening, error_opening};
 ghost use Rattle.rules.specs.Sizes.{name_width};
 
-use rules::{Letters, PriceForm, Side};
+use print_side::Look;
+use rules::{Letters, Side};
 
 // ---- parts
 
@@ -59,130 +60,66 @@ fn write_opening(rest: &mut [u8], error: bool) -> usize
 
 // ---- cancels and errors
 
-pub fn cancel_length(
-    error: bool,
-    name: &[u8],
-    network: u64,
-    unit: u64,
-    form: PriceForm,
-    shows: bool,
-    x: Side,
-) -> usize
-    requires { (length name.now ≡ name_width) × (1 ≤ unit) × (x.price.d ≤ 8) × (x.previous.d ≤ 8) }
-    ensures { result ≡ length (cancel_text (pick error error_opening cancel_opening) (name_text false name.now) network unit form shows x) }
+pub fn cancel_length(error: bool, name: &[u8], look: Look, x: Side) -> usize
+    requires { (length name.now ≡ name_width) × (1 ≤ look.unit) × (x.price.d ≤ 8) × (x.previous.d ≤ 8) }
+    ensures { result ≡ length (cancel_text (pick error error_opening cancel_opening) (name_text false name.now) look.network look.unit look.form look.shows x) }
 {
-    6 + print_side::side_length(name, false, network, unit, form, shows, x) + end_pair_length(x)
+    6 + print_side::side_length(name, false, look, x) + end_pair_length(x)
 }
 
 pub fn write_cancel(
     rest: &mut [u8],
     error: bool,
     name: &[u8],
-    network: u64,
-    unit: u64,
-    form: PriceForm,
-    shows: bool,
+    look: Look,
     x: Side,
     part: &[u8],
 ) -> usize
-    requires { (length name.now ≡ name_width) × (1 ≤ unit) × SideColumns part.now x × (length (cancel_text (pick error error_opening cancel_opening) (name_text false name.now) network unit form shows x) ≤ length rest.old) }
-    ensures { Written (cancel_text (pick error error_opening cancel_opening) (name_text false name.now) network unit form shows x) rest.old rest.new result }
+    requires { (length name.now ≡ name_width) × (1 ≤ look.unit) × SideColumns part.now x × (length (cancel_text (pick error error_opening cancel_opening) (name_text false name.now) look.network look.unit look.form look.shows x) ≤ length rest.old) }
+    ensures { Written (cancel_text (pick error error_opening cancel_opening) (name_text false name.now) look.network look.unit look.form look.shows x) rest.old rest.new result }
 {
     let at = write_opening(rest, error);
-    let at2 = at
-        + print_side::write_side(
-            &mut rest[at..],
-            name,
-            false,
-            network,
-            unit,
-            form,
-            shows,
-            x,
-            part,
-        );
+    let at2 = at + print_side::write_side(&mut rest[at..], name, false, look, x, part);
     at2 + write_end_pair(&mut rest[at2..], x)
 }
 
 // ---- corrections
 
-pub fn correction_length(
-    name: &[u8],
-    network: u64,
-    unit: u64,
-    form: PriceForm,
-    shows: bool,
-    x: Side,
-    y: Side,
-) -> usize
-    requires { (length name.now ≡ name_width) × (1 ≤ unit) × (x.price.d ≤ 8) × (x.previous.d ≤ 8) × (y.price.d ≤ 8) × (y.previous.d ≤ 8) }
-    ensures { result ≡ length (correction_text (name_text false name.now) network unit form shows x y) }
+pub fn correction_length(name: &[u8], look: Look, x: Side, y: Side) -> usize
+    requires { (length name.now ≡ name_width) × (1 ≤ look.unit) × (x.price.d ≤ 8) × (x.previous.d ≤ 8) × (y.price.d ≤ 8) × (y.previous.d ≤ 8) }
+    ensures { result ≡ length (correction_text (name_text false name.now) look.network look.unit look.form look.shows x y) }
 {
     let again = correcting_name(y.letters, name); // for the length
-    7 + print_side::side_length(name, false, network, unit, form, shows, x)
+    7 + print_side::side_length(name, false, look, x)
         + 4
-        + print_side::side_length(again, false, network, unit, form, shows, y)
+        + print_side::side_length(again, false, look, y)
         + end_pair_length(y)
 }
 
 // The original between its opening and `WAS.`.
-fn write_original(
-    rest: &mut [u8],
-    name: &[u8],
-    network: u64,
-    unit: u64,
-    form: PriceForm,
-    shows: bool,
-    x: Side,
-    part: &[u8],
-) -> usize
-    requires { (length name.now ≡ name_width) × (1 ≤ unit) × SideColumns part.now x × (length (original_text (name_text false name.now) network unit form shows x) ≤ length rest.old) }
-    ensures { Written (original_text (name_text false name.now) network unit form shows x) rest.old rest.new result }
+fn write_original(rest: &mut [u8], name: &[u8], look: Look, x: Side, part: &[u8]) -> usize
+    requires { (length name.now ≡ name_width) × (1 ≤ look.unit) × SideColumns part.now x × (length (original_text (name_text false name.now) look.network look.unit look.form look.shows x) ≤ length rest.old) }
+    ensures { Written (original_text (name_text false name.now) look.network look.unit look.form look.shows x) rest.old rest.new result }
 {
     let at = text::write_bytes(rest, b"<<CORR.");
-    let at2 = at
-        + print_side::write_side(
-            &mut rest[at..],
-            name,
-            false,
-            network,
-            unit,
-            form,
-            shows,
-            x,
-            part,
-        );
+    let at2 = at + print_side::write_side(&mut rest[at..], name, false, look, x, part);
     at2 + text::write_bytes(&mut rest[at2..], b"WAS.")
 }
 
 pub fn write_correction(
     rest: &mut [u8],
     name: &[u8],
-    network: u64,
-    unit: u64,
-    form: PriceForm,
-    shows: bool,
+    look: Look,
     x: Side,
     y: Side,
     part: &[u8],
     other: &[u8],
 ) -> usize
-    requires { (length name.now ≡ name_width) × (1 ≤ unit) × SideColumns part.now x × SideColumns other.now y × (length (correction_text (name_text false name.now) network unit form shows x y) ≤ length rest.old) }
-    ensures { Written (correction_text (name_text false name.now) network unit form shows x y) rest.old rest.new result }
+    requires { (length name.now ≡ name_width) × (1 ≤ look.unit) × SideColumns part.now x × SideColumns other.now y × (length (correction_text (name_text false name.now) look.network look.unit look.form look.shows x y) ≤ length rest.old) }
+    ensures { Written (correction_text (name_text false name.now) look.network look.unit look.form look.shows x y) rest.old rest.new result }
 {
     let again = correcting_name(y.letters, name); // for the text
-    let at = write_original(rest, name, network, unit, form, shows, x, part);
-    let at2 = at
-        + print_side::write_side(
-            &mut rest[at..],
-            again,
-            false,
-            network,
-            unit,
-            form,
-            shows,
-            y,
-            other,
-        );
+    let at = write_original(rest, name, look, x, part);
+    let at2 = at + print_side::write_side(&mut rest[at..], again, false, look, y, other);
     at2 + write_end_pair(&mut rest[at2..], y)
 }

@@ -14,13 +14,23 @@ ghost use Rattle.line_owed.specs.Owed.{SideColumns};
 
 use rules::{Letters, PriceForm, Side};
 
+// How a side is shown: the network and the unit of trading that its volume is written for, the form of its price, whether its
+// volume is shown.
+#[derive(Clone, Copy)]
+pub struct Look {
+    pub network: u64,
+    pub unit: u64,
+    pub form: PriceForm,
+    pub shows: bool,
+}
+
 // The volume, where it is shown.
-fn shown_volume_length(shows: bool, network: u64, unit: u64, v: u64) -> usize
-    requires { 1 ≤ unit }
-    ensures { (result ≡ length (opt shows (volume_text network unit v))) × (result ≤ 32) }
+fn shown_volume_length(look: Look, v: u64) -> usize
+    requires { 1 ≤ look.unit }
+    ensures { (result ≡ length (opt look.shows (volume_text look.network look.unit v))) × (result ≤ 32) }
 {
-    if shows {
-        print_volume::volume_length(network, unit, v)
+    if look.shows {
+        print_volume::volume_length(look.network, look.unit, v)
     } else {
         0
     }
@@ -67,24 +77,14 @@ fn write_tail(rest: &mut [u8], marked: bool, x: Side) -> usize
     }
 }
 
-// Kept: network, unit, form and shows apart, here and in print_amendment, as the callers have them.
-
 // A whole side: name, volume, price, conditions. The name is the columns of one, its temporary suffix shown or not.
-pub fn side_length(
-    name: &[u8],
-    temporary: bool,
-    network: u64,
-    unit: u64,
-    form: PriceForm,
-    shows: bool,
-    x: Side,
-) -> usize
-    requires { (length name.now ≡ name_width) × (1 ≤ unit) × (x.price.d ≤ 8) × (x.previous.d ≤ 8) }
-    ensures { (result ≡ length (side_text (name_text temporary name.now) network unit form shows x)) × (result ≤ 183) }
+pub fn side_length(name: &[u8], temporary: bool, look: Look, x: Side) -> usize
+    requires { (length name.now ≡ name_width) × (1 ≤ look.unit) × (x.price.d ≤ 8) × (x.previous.d ≤ 8) }
+    ensures { (result ≡ length (side_text (name_text temporary name.now) look.network look.unit look.form look.shows x)) × (result ≤ 183) }
 {
     head_length(name, temporary, x.letters)
-        + shown_volume_length(shows, network, unit, x.volume)
-        + print_price::price_length(form, x.price)
+        + shown_volume_length(look, x.volume)
+        + print_price::price_length(look.form, x.price)
         + tail_length(x)
 }
 
@@ -94,20 +94,24 @@ pub fn write_side(
     rest: &mut [u8],
     name: &[u8],
     temporary: bool,
-    network: u64,
-    unit: u64,
-    form: PriceForm,
-    shows: bool,
+    look: Look,
     x: Side,
     part: &[u8],
 ) -> usize
-    requires { (length name.now ≡ name_width) × (1 ≤ unit) × SideColumns part.now x × (length (side_text (name_text temporary name.now) network unit form shows x) ≤ length rest.old) }
-    ensures { Written (side_text (name_text temporary name.now) network unit form shows x) rest.old rest.new result }
+    requires { (length name.now ≡ name_width) × (1 ≤ look.unit) × SideColumns part.now x × (length (side_text (name_text temporary name.now) look.network look.unit look.form look.shows x) ≤ length rest.old) }
+    ensures { Written (side_text (name_text temporary name.now) look.network look.unit look.form look.shows x) rest.old rest.new result }
 {
     let marked = part[24] != b' ';
     let at = write_head(rest, name, temporary, marked, x.letters);
     let at2 = at
-        + print_amounts::write_volume(&mut rest[at..], part, shows, network, unit, x.volume);
-    let at3 = at2 + print_amounts::write_price(&mut rest[at2..], &part[9..46], form, x.price);
+        + print_amounts::write_volume(
+            &mut rest[at..],
+            part,
+            look.shows,
+            look.network,
+            look.unit,
+            x.volume,
+        );
+    let at3 = at2 + print_amounts::write_price(&mut rest[at2..], &part[9..46], look.form, x.price);
     at3 + write_tail(&mut rest[at3..], marked, x)
 }

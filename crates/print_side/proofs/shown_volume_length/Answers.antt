@@ -2,8 +2,8 @@ use Rattle.text.proofs.Writing.{options}
 use borrow.Author.Rules.{rules}
 use Rattle.print_side.proofs.shown_volume_length.Goals as goal
 
-pub returns-then-shows : goal.returns-then-shows
-returns-then-shows c = (search options, search rules)
+pub returns-then-look : goal.returns-then-look
+returns-then-look c = (search options, search rules)
 
-pub returns-else-shows : goal.returns-else-shows
-returns-else-shows c = (search options, search rules)
+pub returns-else-look : goal.returns-else-look
+returns-else-look c = (search options, search rules)
