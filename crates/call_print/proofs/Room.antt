@@ -1,4 +1,4 @@
--- A print, and room for it. Assumes nothing.
+-- Room for a print. Assumes nothing.
 use Prim.Native.Nat.{ℕ, ◌≤◌, ◌<◌}
 use native.Mathlib.Omega.{arith}
 use mathlib.Core.Path.{◌≡◌, refl}
@@ -8,88 +8,12 @@ use lib.Dec.{ltb}
 use lib.ListN.{length}
 use borrow.Author.Tests.{lt-ltb, le-ltb, ltb-false}
 use Rattle.text.proofs.Tests.{pick_yes, pick_no}
-use Rattle.text.specs.Pick.{pick, opt}
-use Rattle.text.specs.Put.{Written}
-use Rattle.call_table.specs.Rows.{name_of}
-use Rattle.rules.specs.Side.{side_text}
-use Rattle.rules.specs.Names.{name_text}
-use Rattle.rules.specs.Correction.{correction_text, cancel_text, cancel_opening, error_opening}
+use Rattle.text.specs.Pick.{pick}
 use Rattle.rules.specs.declared.Settings.{Settings}
 use Rattle.rules.specs.declared.Refusal.TheVariants.{Room}
-use Rattle.call_plan.specs.declared.TradePlan.{TradePlan}
-use Rattle.call_plan.specs.declared.CancelPlan.{CancelPlan}
-use Rattle.call_plan.specs.declared.CorrectionPlan.{CorrectionPlan}
 use Rattle.call_plan.specs.declared.Plan.{Plan}
 use Rattle.call_plan.specs.declared.Plan.TheVariants.{Stop}
-use Rattle.call_print.specs.Print.{printed_name, print_text, cancelled, corrected, text_of, fitted_of, print_of, SoundPlan}
-
--- ---- a trade's print
-
-module _ (name : List ℕ) (t : TradePlan) where
-  pub no_print : t.prints ≡ false → print_text name t ≡ []
-  unfolding print_text opt
-  no_print h = rw h
-
-  pub some_print : t.prints ≡ true → print_text name t ≡ side_text name t.network t.unit t.form t.shows t.side
-  unfolding print_text opt
-  some_print h = rw h
-
--- with the columns of its name as a callee answered them
-module _ (names : List ℕ) (t : TradePlan) (name : List ℕ) (e : name ≡ name_of names t.place) (h : t.prints ≡ true) where
-  pub print_length : (r : ℕ) → r ≡ length (side_text (name_text t.temporary name) t.network t.unit t.form t.shows t.side) → r ≡ length (print_text (name_text t.temporary (name_of names t.place)) t)
-  unfolding print_text opt
-  print_length r l = rw (h, ← e) l
-
-  pub print_room : (m : ℕ) → length (print_text (name_text t.temporary (name_of names t.place)) t) ≤ m → length (side_text (name_text t.temporary name) t.network t.unit t.form t.shows t.side) ≤ m
-  unfolding print_text opt
-  print_room m l = rw e (rw h at l)
-
-  pub print_written : (b a : List ℕ) (r : ℕ) → Written (side_text (name_text t.temporary name) t.network t.unit t.form t.shows t.side) b a r → Written (print_text (name_text t.temporary (name_of names t.place)) t) b a r
-  unfolding print_text opt
-  print_written b a r w = rw (h, ← e) w
-
-pub ruleset prints = (no_print, print_length, print_room, print_written)
-
--- ---- a correction's print, a cancel's
-
-module _ (name : List ℕ) (c : CorrectionPlan) where
-  pub no_correction : c.prints ≡ false → corrected name c ≡ []
-  unfolding corrected opt
-  no_correction h = rw h
-
-  pub some_correction : c.prints ≡ true → corrected name c ≡ correction_text name c.network c.unit c.form c.shows c.original c.correcting
-  unfolding corrected opt
-  some_correction h = rw h
-
-module _ (names : List ℕ) (c : CorrectionPlan) (name : List ℕ) (e : name ≡ name_of names c.place) (h : c.prints ≡ true) where
-  pub correction_length : (r : ℕ) → r ≡ length (correction_text (name_text false name) c.network c.unit c.form c.shows c.original c.correcting) → r ≡ length (corrected (name_text false (name_of names c.place)) c)
-  unfolding corrected opt
-  correction_length r l = rw (h, ← e) l
-
-  pub correction_room : (m : ℕ) → length (corrected (name_text false (name_of names c.place)) c) ≤ m → length (correction_text (name_text false name) c.network c.unit c.form c.shows c.original c.correcting) ≤ m
-  unfolding corrected opt
-  correction_room m l = rw e (rw h at l)
-
-  pub correction_written : (b a : List ℕ) (r : ℕ) → Written (correction_text (name_text false name) c.network c.unit c.form c.shows c.original c.correcting) b a r → Written (corrected (name_text false (name_of names c.place)) c) b a r
-  unfolding corrected opt
-  correction_written b a r w = rw (h, ← e) w
-
-pub ruleset corrections = (no_correction, correction_length, correction_room, correction_written)
-
-module _ (names : List ℕ) (t : CancelPlan) (name : List ℕ) (e : name ≡ name_of names t.place) where
-  pub cancel_length : (r : ℕ) → r ≡ length (cancel_text (pick t.error error_opening cancel_opening) (name_text false name) t.network t.unit t.form t.shows t.side) → r ≡ length (cancelled (name_text false (name_of names t.place)) t)
-  unfolding cancelled
-  cancel_length r l = rw (← e) l
-
-  pub cancel_room : (m : ℕ) → length (cancelled (name_text false (name_of names t.place)) t) ≤ m → length (cancel_text (pick t.error error_opening cancel_opening) (name_text false name) t.network t.unit t.form t.shows t.side) ≤ m
-  unfolding cancelled
-  cancel_room m l = rw e l
-
-  pub cancel_written : (b a : List ℕ) (r : ℕ) → Written (cancel_text (pick t.error error_opening cancel_opening) (name_text false name) t.network t.unit t.form t.shows t.side) b a r → Written (cancelled (name_text false (name_of names t.place)) t) b a r
-  unfolding cancelled
-  cancel_written b a r w = rw (← e) w
-
-pub ruleset cancels = (cancel_length, cancel_room, cancel_written)
+use Rattle.call_print.specs.Print.{printed_name, text_of, fitted_of, print_of, SoundPlan}
 
 -- ---- room for it
 

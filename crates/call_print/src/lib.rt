@@ -13,53 +13,73 @@ use call_table::Names;
 use print_side::Look;
 use rules::{FIRST_SIDE, LONGEST_PRINT, Refusal, SECOND_SIDE, SIDES_END, Settings};
 
+// ---- how the sides of a plan are shown
+
+fn trade_look(t: TradePlan) -> Look
+    ensures { (result.network ≡ t.network) × (result.unit ≡ t.unit) × (result.form ≡ t.form) × (result.shows ≡ t.shows) }
+{
+    Look {
+        network: t.network,
+        unit: t.unit,
+        form: t.form,
+        shows: t.shows,
+    }
+}
+
+fn cancel_look(t: CancelPlan) -> Look
+    ensures { (result.network ≡ t.network) × (result.unit ≡ t.unit) × (result.form ≡ t.form) × (result.shows ≡ t.shows) }
+{
+    Look {
+        network: t.network,
+        unit: t.unit,
+        form: t.form,
+        shows: t.shows,
+    }
+}
+
+fn correction_look(c: CorrectionPlan) -> Look
+    ensures { (result.network ≡ c.network) × (result.unit ≡ c.unit) × (result.form ≡ c.form) × (result.shows ≡ c.shows) }
+{
+    Look {
+        network: c.network,
+        unit: c.unit,
+        form: c.form,
+        shows: c.shows,
+    }
+}
+
 // ---- the print: its length, whether it fits, its writer
 
+#[tactic(auto, unfolding(crate::specs::Print::print_text, text::specs::Pick::opt))]
 fn print_length(names: &Names, line: &[u8], t: TradePlan) -> usize
     requires { SoundPrint line.now t }
     ensures { result ≡ length (print_text (name_text t.temporary (name_of names.now t.place)) t) }
 {
     if t.prints {
         let name = call_table::name_at(names, t.place);
-        let look = Look {
-            network: t.network,
-            unit: t.unit,
-            form: t.form,
-            shows: t.shows,
-        };
-        print_side::side_length(name, t.temporary, look, t.side)
+        print_side::side_length(name, t.temporary, trade_look(t), t.side)
     } else {
         0
     }
 }
 
+#[tactic(auto, unfolding(crate::specs::Print::cancelled))]
 fn cancel_length(names: &Names, line: &[u8], t: CancelPlan) -> usize
     requires { SoundCancel line.now t }
     ensures { result ≡ length (cancelled (name_text false (name_of names.now t.place)) t) }
 {
     let name = call_table::name_at(names, t.place);
-    let look = Look {
-        network: t.network,
-        unit: t.unit,
-        form: t.form,
-        shows: t.shows,
-    };
-    print_amendment::cancel_length(t.error, name, look, t.side)
+    print_amendment::cancel_length(t.error, name, cancel_look(t), t.side)
 }
 
+#[tactic(auto, unfolding(crate::specs::Print::corrected, text::specs::Pick::opt))]
 fn correction_length(names: &Names, line: &[u8], c: CorrectionPlan) -> usize
     requires { SoundCorrect line.now c }
     ensures { result ≡ length (corrected (name_text false (name_of names.now c.place)) c) }
 {
     if c.prints {
         let name = call_table::name_at(names, c.place);
-        let look = Look {
-            network: c.network,
-            unit: c.unit,
-            form: c.form,
-            shows: c.shows,
-        };
-        print_amendment::correction_length(name, look, c.original, c.correcting)
+        print_amendment::correction_length(name, correction_look(c), c.original, c.correcting)
     } else {
         0
     }
@@ -95,23 +115,18 @@ pub fn fitted(st: Settings, names: &Names, line: &[u8], p: Plan, room: usize) ->
     p
 }
 
+#[tactic(auto, using(text::proofs::Writing::written_nothing), unfolding(crate::specs::Print::print_text, text::specs::Pick::opt))]
 fn write_print(rest: &mut [u8], names: &Names, line: &[u8], t: TradePlan) -> usize
     requires { SoundPrint line.now t × (length (print_text (name_text t.temporary (name_of names.now t.place)) t) ≤ length rest.old) }
     ensures { Written (print_text (name_text t.temporary (name_of names.now t.place)) t) rest.old rest.new result }
 {
     if t.prints {
         let name = call_table::name_at(names, t.place);
-        let look = Look {
-            network: t.network,
-            unit: t.unit,
-            form: t.form,
-            shows: t.shows,
-        };
         print_side::write_side(
             rest,
             name,
             t.temporary,
-            look,
+            trade_look(t),
             t.side,
             &line[FIRST_SIDE..SECOND_SIDE],
         )
@@ -120,43 +135,33 @@ fn write_print(rest: &mut [u8], names: &Names, line: &[u8], t: TradePlan) -> usi
     }
 }
 
+#[tactic(auto, unfolding(crate::specs::Print::cancelled))]
 fn write_cancel(rest: &mut [u8], names: &Names, line: &[u8], t: CancelPlan) -> usize
     requires { SoundCancel line.now t × (length (cancelled (name_text false (name_of names.now t.place)) t) ≤ length rest.old) }
     ensures { Written (cancelled (name_text false (name_of names.now t.place)) t) rest.old rest.new result }
 {
     let name = call_table::name_at(names, t.place);
-    let look = Look {
-        network: t.network,
-        unit: t.unit,
-        form: t.form,
-        shows: t.shows,
-    };
     print_amendment::write_cancel(
         rest,
         t.error,
         name,
-        look,
+        cancel_look(t),
         t.side,
         &line[FIRST_SIDE..SECOND_SIDE],
     )
 }
 
+#[tactic(auto, using(text::proofs::Writing::written_nothing), unfolding(crate::specs::Print::corrected, text::specs::Pick::opt))]
 fn write_correction(rest: &mut [u8], names: &Names, line: &[u8], c: CorrectionPlan) -> usize
     requires { SoundCorrect line.now c × (length (corrected (name_text false (name_of names.now c.place)) c) ≤ length rest.old) }
     ensures { Written (corrected (name_text false (name_of names.now c.place)) c) rest.old rest.new result }
 {
     if c.prints {
         let name = call_table::name_at(names, c.place);
-        let look = Look {
-            network: c.network,
-            unit: c.unit,
-            form: c.form,
-            shows: c.shows,
-        };
         print_amendment::write_correction(
             rest,
             name,
-            look,
+            correction_look(c),
             c.original,
             c.correcting,
             &line[FIRST_SIDE..SECOND_SIDE],
