@@ -1,5 +1,5 @@
 -- Laws of the texts of "Corrections and cancels", in the form of the code's needs. Assumes nothing.
-use Prim.Native.Nat.{ℕ, ◌≤◌}
+use Prim.Native.Nat.{ℕ}
 use mathlib.Core.Path.{◌≡◌, refl}
 use mathlib.Core.Bool.{Bool, true, false}
 use mathlib.Core.List.{List, []}
@@ -31,11 +31,5 @@ no_name = refl
 
 -- a side whose name is repeated, or left out, by what stands for the name
 module _ (s t : List ℕ) (network unit : ℕ) (form : PriceForm) (shows : Bool) (x : Side) where
-  pub length_again : (r : ℕ) → s ≡ t → r ≡ length (side_text s network unit form shows x) → r ≡ length (side_text t network unit form shows x)
-  length_again r e l = rw e at l
-
-  pub room_again : (m : ℕ) → s ≡ t → length (side_text t network unit form shows x) ≤ m → length (side_text s network unit form shows x) ≤ m
-  room_again m e l = rw e l
-
   pub written_again : (b a : List ℕ) (r : ℕ) → s ≡ t → Written (side_text s network unit form shows x) b a r → Written (side_text t network unit form shows x) b a r
   written_again b a r e w = rw e at w

@@ -19,12 +19,14 @@ use rules::{Letters, Side};
 // ---- parts
 
 // The end pair, unless a closing G pair serves as it.
+#[tactic(auto, unfolding(rules::specs::Correction::end_pair))]
 fn end_pair_length(x: Side) -> usize
     ensures { (result ≡ length (end_pair x)) × (result ≤ 2) }
 {
     text::optional_length(!x.letters.g, b">>")
 }
 
+#[tactic(auto, unfolding(rules::specs::Correction::end_pair))]
 fn write_end_pair(rest: &mut [u8], x: Side) -> usize
     requires { length (end_pair x) ≤ length rest.old }
     ensures { Written (end_pair x) rest.old rest.new result }
@@ -47,6 +49,7 @@ fn correcting_name(letters: Letters, name: &[u8]) -> &[u8]
 }
 
 // `<<ERR.` or `<<CXL.`.
+#[tactic(auto, unfolding(text::specs::Pick::pick))]
 fn write_opening(rest: &mut [u8], error: bool) -> usize
     requires { length (pick error error_opening cancel_opening) ≤ length rest.old }
     ensures { Written (pick error error_opening cancel_opening) rest.old rest.new result }
@@ -60,6 +63,7 @@ fn write_opening(rest: &mut [u8], error: bool) -> usize
 
 // ---- cancels and errors
 
+#[tactic(auto, using(text::proofs::Writing::length_joined, crate::proofs::Amended::opening_length), unfolding(rules::specs::Correction::cancel_text))]
 pub fn cancel_length(error: bool, name: &[u8], look: Look, x: Side) -> usize
     requires { (length name.now ≡ name_width) × (1 ≤ look.unit) × (x.price.d ≤ 8) × (x.previous.d ≤ 8) }
     ensures { result ≡ length (cancel_text (pick error error_opening cancel_opening) (name_text false name.now) look.network look.unit look.form look.shows x) }
@@ -67,6 +71,7 @@ pub fn cancel_length(error: bool, name: &[u8], look: Look, x: Side) -> usize
     6 + print_side::side_length(name, false, look, x) + end_pair_length(x)
 }
 
+#[tactic(auto, using(text::proofs::Writing::rooms), unfolding(rules::specs::Correction::cancel_text))]
 pub fn write_cancel(
     rest: &mut [u8],
     error: bool,
@@ -85,6 +90,7 @@ pub fn write_cancel(
 
 // ---- corrections
 
+#[tactic(auto, using(text::proofs::Writing::length_joined), unfolding(rules::specs::Correction::correction_text))]
 pub fn correction_length(name: &[u8], look: Look, x: Side, y: Side) -> usize
     requires { (length name.now ≡ name_width) × (1 ≤ look.unit) × (x.price.d ≤ 8) × (x.previous.d ≤ 8) × (y.price.d ≤ 8) × (y.previous.d ≤ 8) }
     ensures { result ≡ length (correction_text (name_text false name.now) look.network look.unit look.form look.shows x y) }
@@ -97,6 +103,7 @@ pub fn correction_length(name: &[u8], look: Look, x: Side, y: Side) -> usize
 }
 
 // The original between its opening and `WAS.`.
+#[tactic(auto, using(text::proofs::Writing::rooms), unfolding(crate::specs::Original::original_text))]
 fn write_original(rest: &mut [u8], name: &[u8], look: Look, x: Side, part: &[u8]) -> usize
     requires { (length name.now ≡ name_width) × (1 ≤ look.unit) × SideColumns part.now x × (length (original_text (name_text false name.now) look.network look.unit look.form look.shows x) ≤ length rest.old) }
     ensures { Written (original_text (name_text false name.now) look.network look.unit look.form look.shows x) rest.old rest.new result }
@@ -106,6 +113,7 @@ fn write_original(rest: &mut [u8], name: &[u8], look: Look, x: Side, part: &[u8]
     at2 + text::write_bytes(&mut rest[at2..], b"WAS.")
 }
 
+#[tactic(auto, using(text::proofs::Writing::rooms), unfolding(rules::specs::Correction::correction_text, crate::specs::Original::original_text))]
 pub fn write_correction(
     rest: &mut [u8],
     name: &[u8],
