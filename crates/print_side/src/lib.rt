@@ -25,6 +25,7 @@ pub struct Look {
 }
 
 // The volume, where it is shown.
+#[tactic(auto, unfolding(text::specs::Pick::opt))]
 fn shown_volume_length(look: Look, v: u64) -> usize
     requires { 1 ≤ look.unit }
     ensures { (result ≡ length (opt look.shows (volume_text look.network look.unit v))) × (result ≤ 32) }
@@ -37,6 +38,7 @@ fn shown_volume_length(look: Look, v: u64) -> usize
 }
 
 // The name and the conditions after it.
+#[tactic(auto, using(text::proofs::Writing::length_joined), unfolding(rules::specs::Side::head_text))]
 fn head_length(name: &[u8], temporary: bool, x: Letters) -> usize
     requires { length name.now ≡ name_width }
     ensures { (result ≡ length (head_text (name_text temporary name.now) x)) × (result ≤ 42) }
@@ -45,6 +47,7 @@ fn head_length(name: &[u8], temporary: bool, x: Letters) -> usize
 }
 
 // `marked`: some letter stands in the line.
+#[tactic(auto, using(text::proofs::Writing::rooms, crate::proofs::Columns::head_alone), unfolding(rules::specs::Side::head_text))]
 fn write_head(rest: &mut [u8], name: &[u8], temporary: bool, marked: bool, x: Letters) -> usize
     requires { (length name.now ≡ name_width) × (marked ≡ false → after_name x ≡ []) × (length (head_text (name_text temporary name.now) x) ≤ length rest.old) }
     ensures { Written (head_text (name_text temporary name.now) x) rest.old rest.new result }
@@ -58,6 +61,7 @@ fn write_head(rest: &mut [u8], name: &[u8], temporary: bool, marked: bool, x: Le
 }
 
 // The conditions after the price and at the end.
+#[tactic(auto, using(text::proofs::Writing::length_joined), unfolding(rules::specs::Side::tail_text))]
 fn tail_length(x: Side) -> usize
     requires { x.previous.d ≤ 8 }
     ensures { (result ≡ length (tail_text x)) × (result ≤ 80) }
@@ -65,6 +69,7 @@ fn tail_length(x: Side) -> usize
     print_conditions::after_price_length(x.letters) + print_ending::at_end_length(x)
 }
 
+#[tactic(auto, using(text::proofs::Writing::rooms, crate::proofs::Columns::no_tail_written), unfolding(rules::specs::Side::tail_text))]
 fn write_tail(rest: &mut [u8], marked: bool, x: Side) -> usize
     requires { (x.previous.d ≤ 8) × (marked ≡ false → tail_text x ≡ []) × (length (tail_text x) ≤ length rest.old) }
     ensures { Written (tail_text x) rest.old rest.new result }
@@ -78,6 +83,7 @@ fn write_tail(rest: &mut [u8], marked: bool, x: Side) -> usize
 }
 
 // A whole side: name, volume, price, conditions. The name is the columns of one, its temporary suffix shown or not.
+#[tactic(auto, using(text::proofs::Writing::length_joined), unfolding(rules::specs::Side::side_text))]
 pub fn side_length(name: &[u8], temporary: bool, look: Look, x: Side) -> usize
     requires { (length name.now ≡ name_width) × (1 ≤ look.unit) × (x.price.d ≤ 8) × (x.previous.d ≤ 8) }
     ensures { (result ≡ length (side_text (name_text temporary name.now) look.network look.unit look.form look.shows x)) × (result ≤ 183) }
