@@ -41,7 +41,7 @@ fn read_full<R: Read>(input: &mut R, block: &mut [u8]) -> usize
 
 // Reads the file of that name into the block and answers how many bytes came, 0 where it cannot be opened. What is not UTF-8 names
 // no file.
-// Kept: to the callers an empty file is no file either.
+// Kept: an `Option` would be no plainer, since to the callers an empty file is no file either.
 pub fn read_file<F: Files>(files: &F, name: &[u8], block: &mut [u8]) -> usize
     ensures { result ≤ length block.new }
 {
