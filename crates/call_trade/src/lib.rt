@@ -55,6 +55,7 @@ fn has_rule(marked: bool, x: Letters) -> bool
 // ---- the trade
 
 // The tape has room for the print; for any, where it has LONGEST_PRINT bytes.
+#[tactic(auto, using(crate::proofs::Carried::room_any))]
 fn has_room(room: usize, name: &[u8], temporary: bool, look: Look, x: Side) -> bool
     requires { (length name.now ≡ name_width) × (1 ≤ look.unit) × OwedSide x }
     ensures { result ≡ leb (length (side_text (name_text temporary name.now) look.network look.unit look.form look.shows x)) room }
