@@ -30,8 +30,9 @@ fn conditions_ahead(field: &[u8]) -> usize
         .unwrap_or(field.len())
 }
 
-// Condition letters from the left, then blanks; most fields are blank, or hold one.
+// Condition letters from the left, then blanks; most fields are blank, or hold one. Inline, since each trade comes by it.
 #[tactic(auto, using(crate::proofs::Formed::formed))]
+#[inline(always)]
 pub fn letters_formed(field: &[u8]) -> bool
     ensures { result ≡ letters_formed field.now }
 {
