@@ -6,16 +6,28 @@ ghost use Rattle.std.specs.Prelude.{◌≡◌, ℕ, Bool, List, length, map};
 ghost use Rattle.std.specs.Fn.{FnReturnsAt};
 ghost use Rattle.text.specs.Pick.{member};
 ghost use Rattle.rules.specs.Columns.{word};
-ghost use Rattle.rules.specs.Names.{is_class, is_series, is_preferred, is_suffix, is_temporary, is_appendage, is_reserved, lawful_field, lawful_name};
+ghost use Rattle.rules.specs.Names.{is_class, is_series, is_preferred, listed_suffixes, is_suffix, is_temporary, is_appendage, is_reserved, lawful_field, lawful_name};
 ghost use Rattle.rules.specs.Sizes.{name_width};
 
-// The suffixes that are listed one by one.
-const SUFFIXES: [&[u8]; 42] = [
-    b"A", b"A.CL", b"A.CV", b"Aw", b"A.N", b"B", b"B.CL", b"B.CV", b"Bw", b"B.N", b"CL", b"CT",
-    b"CV", b"CVR", b"CV.CL", b"EC", b"F.N", b"PP", b"PT.CL", b"SC", b"SP", b"SD", b"TT", b"U",
-    b"VR", b"WD", b"WS", b"W.WS", b"WS.A", b"WS.B", b"WS.N", b"WSw", b"XW", b"r", b"rw", b"w",
-    b"p", b"pw", b"pCL", b"pCV", b"pCV.CL", b"pWD",
+// The suffixes that are listed one by one, by their length: a text is looked for among those as long as it is.
+const OF_ONE: [&[u8]; 6] = [b"A", b"B", b"U", b"r", b"w", b"p"];
+
+const OF_TWO: [&[u8]; 17] = [
+    b"Aw", b"Bw", b"CL", b"CT", b"CV", b"EC", b"PP", b"SC", b"SP", b"SD", b"TT", b"VR", b"WD",
+    b"WS", b"XW", b"rw", b"pw",
 ];
+
+const OF_THREE: [&[u8]; 8] = [
+    b"A.N", b"B.N", b"CVR", b"F.N", b"WSw", b"pCL", b"pCV", b"pWD",
+];
+
+const OF_FOUR: [&[u8]; 8] = [
+    b"A.CL", b"A.CV", b"B.CL", b"B.CV", b"W.WS", b"WS.A", b"WS.B", b"WS.N",
+];
+
+const OF_FIVE: [&[u8]; 2] = [b"CV.CL", b"PT.CL"];
+
+const OF_SIX: [&[u8]; 1] = [b"pCV.CL"];
 
 // What may follow the letter of a class.
 const CLASS_ENDS: [&[u8]; 4] = [b"", b".CV", b".CL", b"w"];
@@ -62,11 +74,27 @@ fn is_preferred(text: &[u8]) -> bool
         || text::begins(b"pC", text) && is_series(&text[2..])
 }
 
-#[tactic(auto, unfolding(rules::specs::Names::is_suffix, rules::specs::Names::listed_suffixes))]
+// One of those that are listed one by one.
+fn is_single(text: &[u8]) -> bool
+    ensures { result ≡ member text.now listed_suffixes }
+{
+    match text.len() {
+        1 => is_listed(text, &OF_ONE),
+        2 => is_listed(text, &OF_TWO),
+        3 => is_listed(text, &OF_THREE),
+        4 => is_listed(text, &OF_FOUR),
+        5 => is_listed(text, &OF_FIVE),
+        6 => is_listed(text, &OF_SIX),
+        _ => false,
+    }
+}
+
+// The families are asked first: the list is long.
+#[tactic(auto, unfolding(rules::specs::Names::is_suffix))]
 pub fn is_suffix(text: &[u8]) -> bool
     ensures { result ≡ is_suffix text.now }
 {
-    is_listed(text, &SUFFIXES) || is_preferred(text)
+    is_preferred(text) || is_single(text)
 }
 
 #[tactic(auto, unfolding(rules::specs::Names::is_temporary))]
