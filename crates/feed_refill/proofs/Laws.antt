@@ -1,7 +1,7 @@
 -- What a call of a reader leaves, as a read may leave it; and what it took of the reader's bytes. Assumes nothing.
 use Prim.Native.Nat.{ℕ, ◌+◌, ◌-◌, ◌≤◌}
 use native.Mathlib.Omega.{arith}
-use mathlib.Core.Path.{◌≡◌, ap, ◌∙◌}
+use mathlib.Core.Path.{◌≡◌, ap, ◌∙◌, subst}
 use mathlib.Core.Bool.{true, false, not, true≢false}
 use mathlib.Core.List.{List, [], ◌++◌, append-nil}
 use lib.ListN.{length, take, drop, length-append, length-take, length-drop}
@@ -10,13 +10,16 @@ use borrow.Author.Tests.{not-true, not-false}
 use borrow.Rule.Slice.PartMut.{put_mid}
 use Rattle.std.specs.Prelude.{Result, Ok, Err, is_ok, MatchResult, IfOk}
 use Rattle.std.specs.Counts.{IsPrefixLen}
+use Rattle.std.specs.Io.KnownBytes.{Consumes}
+use Rattle.std.specs.declared.option.Option.{Option}
+use Rattle.std.proofs.KnownBytes.{Consumes-nil, Consumes-kept}
 use Rattle.std.proofs.lemmas.List.{drop_all}
 use Rattle.feed_input.specs.Place.{Answer, Within}
-use Rattle.feed_input.specs.Answers.{Kept}
+use Rattle.feed_input.specs.Answers.{Kept, Answers}
 use Rattle.feed_input.specs.Answers.Answers.{unasked, came, fails}
 use Rattle.feed_input.specs.declared.Place.{Place}
 use Rattle.feed_input.specs.declared.ReadFailed.{ReadFailed}
-use Rattle.feed_refill.specs.Read.{Reading}
+use Rattle.feed_refill.specs.Read.{Reading, Taken}
 
 module _ (p : Place) (block : List ℕ) where
   pub no_read : (z : Answer) → not p.asks ≡ true → Reading p block block z
@@ -65,3 +68,9 @@ joined a k n block ys h l =
     let front : take a (put_mid a k block ys) ≡ take a block = take_at (take a block) _ a e in
     let back : take n (drop a (put_mid a k block ys)) ≡ take n ys = ap (take n) (drop_at (take a block) _ a e) ∙ take-append-le n ys _ l in
     take-add a n (put_mid a k block ys) ∙ ap (λ b. b ++ take n (drop a (put_mid a k block ys))) front ∙ ap (λ b. take a block ++ b) back
+
+-- what a read took of a reader whose bytes are known are the bytes of the link
+pub bytes_taken : {p : Place} {block bytes block' : List ℕ} {z : Answer} (left left' : Option (List ℕ)) → Answers p block bytes z block' → Taken p.asks z left left' (drop p.have block') → Consumes left left' bytes
+bytes_taken {p} {block} {bytes} {block'} {z} left left' (unasked z' a) t = Consumes-kept left left left' [] (Consumes-nil left) (subst (λ b. Taken b z left left' (drop p.have block')) a t)
+bytes_taken {p} {block} {bytes} {block'} {z} left left' (came a k l b) t = subst (Consumes left left') b (subst (λ b. Taken b (Ok (length bytes)) left left' (drop p.have block')) a t).0
+bytes_taken {p} {block} {bytes} {block'} {z} left left' (fails f a k) t = Consumes-kept left left left' [] (Consumes-nil left) (subst (λ b. Taken b (Err f) left left' (drop p.have block')) a t)
