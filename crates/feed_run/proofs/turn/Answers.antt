@@ -1,5 +1,5 @@
-use Rattle.feed_step.proofs.Turns.{turned}
+use Rattle.feed_run.proofs.Laws.{takes}
 use Rattle.feed_run.proofs.turn.Goals as goal
 
 pub returns : goal.returns
-returns g c = search turned
+returns g c = search takes
