@@ -2,9 +2,28 @@
 // feed_step says, and what of its lines, explain_block.
 #![tactic(auto)]
 
+ghost use Rattle.std.specs.Prelude.{IsTrue};
+ghost use Rattle.feed_run.specs.Run.{Ran};
+ghost use Rattle.explain_block.specs.Explains.{explain_program};
+
 use explain_block::Explanations;
 use std::env::{Env, FillError};
-use std::io::Write;
+use std::io::{Read, Write};
+
+// The program over any reader and writers: it answers whether it came to its end and standard output took all that was told.
+fn run<R: Read, W: Write, E: Write>(input: &mut R, output: &mut W, errors: &mut E) -> bool
+    ensures { IsTrue result → Ran explain_program 262144 (R.remaining input.old) (R.remaining input.new) (W.contents output.old) (W.contents output.new) }
+{
+    feed_run::run::<Explanations, _, _, _>(
+        input,
+        output,
+        errors,
+        b"explain",
+        &mut [0u8; 262144],
+        &mut [0u8; 65536],
+        &mut [],
+    )
+}
 
 fn main(rt: HostRuntime) {
     let mut errors = rt.stderr();
@@ -12,13 +31,5 @@ fn main(rt: HostRuntime) {
         let _ = errors.write_all(b"usage: explain < day-file > explanations\n");
         return;
     }
-    feed_run::run::<Explanations, _, _, _>(
-        &mut rt.stdin(),
-        &mut rt.stdout(),
-        &mut errors,
-        b"explain",
-        &mut [0u8; 262144],
-        &mut [0u8; 65536],
-        &mut [],
-    );
+    run(&mut rt.stdin(), &mut rt.stdout(), &mut errors);
 }

@@ -2,9 +2,27 @@
 // `read_run` reads and writes, `read_step` decides.
 #![tactic(auto)]
 
+ghost use Rattle.std.specs.Prelude.{IsTrue};
+ghost use Rattle.read_run.specs.Run.{Ran};
+ghost use Rattle.read_tape.specs.Tape.{place_line};
+
 use read_tape::PlaceLines;
 use std::env::{Env, FillError};
-use std::io::Write;
+use std::io::{Read, Write};
+
+// The program over any reader and writers: it answers whether it came to its end and standard output took all that was told.
+fn run<R: Read, W: Write, E: Write>(input: &mut R, output: &mut W, errors: &mut E) -> bool
+    ensures { IsTrue result → Ran place_line 21 262144 (R.remaining input.old) (R.remaining input.new) (W.contents output.old) (W.contents output.new) }
+{
+    read_run::run::<PlaceLines, _, _, _>(
+        input,
+        output,
+        errors,
+        b"read",
+        &mut [0u8; 262144],
+        &mut [0u8; 65536],
+    )
+}
 
 fn main(rt: HostRuntime) {
     let mut errors = rt.stderr();
@@ -12,14 +30,5 @@ fn main(rt: HostRuntime) {
         let _ = errors.write_all(b"usage: read < tape > lines\n");
         return;
     }
-    let mut block = [0u8; 262144];
-    let mut lines = [0u8; 65536];
-    read_run::run::<PlaceLines, _, _, _>(
-        &mut rt.stdin(),
-        &mut rt.stdout(),
-        &mut errors,
-        b"read",
-        &mut block,
-        &mut lines,
-    );
+    run(&mut rt.stdin(), &mut rt.stdout(), &mut errors);
 }
