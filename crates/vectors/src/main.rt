@@ -3,7 +3,7 @@
 // facts. A day file is shorter than 65,536 bytes.
 #![tactic(auto)]
 
-ghost use Rattle.std.specs.Prelude.{◌≡◌, ◌≤◌, ◌<◌, length, [], IsTrue, ◌++◌, ◌∷◌};
+ghost use Rattle.std.specs.Prelude.{◌≡◌, ◌≤◌, ◌<◌, length, [], IsTrue, ◌++◌, ◌∷◌, take};
 ghost use Rattle.std.specs.Io.KnownBytes.{Appends};
 ghost use Rattle.rules.specs.Day.{opened};
 ghost use Rattle.feed_gather.specs.Gather.{started, block_taken, Stands};
@@ -50,10 +50,13 @@ fn take_day(
 }
 
 // Writes what was gathered, and answers whether all of it was taken.
-fn write_out<W: Write>(out: &mut W, tape: &[u8], refusals: &[u8]) -> bool
-    ensures { IsTrue result → Appends (W.contents out.old) (W.contents out.new) (tape.now ++ 10 ∷ refusals.now) }
+fn write_out<W: Write>(out: &mut W, tape: &[u8], n: usize, refusals: &[u8], k: usize) -> bool
+    requires { (n ≤ length tape.now) × (k ≤ length refusals.now) }
+    ensures { IsTrue result → Appends (W.contents out.old) (W.contents out.new) (take n tape.now ++ 10 ∷ take k refusals.now) }
 {
-    out.write_all(tape).is_ok() && out.write_all(b"\n").is_ok() && out.write_all(refusals).is_ok()
+    out.write_all(&tape[..n]).is_ok()
+        && out.write_all(b"\n").is_ok()
+        && out.write_all(&refusals[..k]).is_ok()
 }
 
 // The lines of the day's shown facts, from a fresh state.
@@ -87,7 +90,7 @@ fn run_file<F: Files, W: Write>(
         return false;
     }
     let f = take_day(table, names, &block[..n], tape, refusals);
-    write_out(out, &tape[..f.out], &refusals[..f.err])
+    write_out(out, tape, f.out, refusals, f.err)
 }
 
 // The same of its shown facts.
