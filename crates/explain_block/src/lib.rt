@@ -10,11 +10,14 @@ use call_table::{Names, Table};
 use feed_gather::{Fed, Tell, Told};
 use rules::{LONGEST_PRINT, Settings};
 
+// Any explanation has room in it.
+pub const EXPLANATION_ROOM: usize = 238;
+
 // What `explain` tells of a line: its explanation.
 pub struct Explanations;
 
 impl Tell for Explanations {
-    const ROOM: usize = 238;
+    const ROOM: usize = EXPLANATION_ROOM;
 
     ghost ROOM = { explanation_room };
 

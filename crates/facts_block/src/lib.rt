@@ -10,11 +10,14 @@ use call_table::{Names, Table};
 use feed_gather::{Fed, Tell, Told};
 use rules::{LONGEST_PRINT, Settings};
 
+// Any line of shown facts has room in it.
+pub const FACT_ROOM: usize = 186 + LONGEST_PRINT;
+
 // What `factlines` tells of a line: its shown facts, without its number.
 pub struct Facts;
 
 impl Tell for Facts {
-    const ROOM: usize = 186 + LONGEST_PRINT;
+    const ROOM: usize = FACT_ROOM;
 
     ghost ROOM = { fact_room };
 

@@ -91,7 +91,7 @@ fn way_lines(ended: bool, end: usize, n: usize, size: usize) -> Way
 }
 
 #[tactic(auto, unfolding(crate::specs::Step::way_of, text::specs::Pick::pick))]
-fn way_of(passing: bool, p: Place, number: u64, held: &[u8], size: usize) -> Way
+pub fn way_of(passing: bool, p: Place, number: u64, held: &[u8], size: usize) -> Way
     ensures { result ≡ way_of passing p number size held.now }
 {
     if p.failed || LAST_LINE < number {
@@ -164,7 +164,7 @@ fn is_over(way: Way) -> bool
 }
 
 // Behind the lines that the way asked for: `f` is what was taken and told.
-fn settle(passing: bool, p: Place, way: Way, f: Fed, block: &mut [u8]) -> Stepped
+pub fn settle(passing: bool, p: Place, way: Way, f: Fed, block: &mut [u8]) -> Stepped
     requires { (p.at + used_by way f.at ≤ p.have) × (p.have ≤ length block.old) }
     ensures { Settles passing p way f block.old block.new result }
 {

@@ -47,7 +47,7 @@ fn is_over(r: Reading, ended: bool) -> bool
 // Behind the reading of what is held, whose first byte stands at a place on the tape: over, or where the next step begins. Where
 // no print was read, a read comes next.
 #[tactic(auto, unfolding(crate::specs::Step::is_over, crate::specs::Step::standing_on, crate::specs::Step::block_over, text::specs::Pick::pick), using(crate::proofs::Ways::not_over))]
-fn go_further(p: Place, at: u64, r: Reading, block: &mut [u8]) -> Stepped
+pub fn go_further(p: Place, at: u64, r: Reading, block: &mut [u8]) -> Stepped
     requires { (p.at + r.at ≤ p.have) × (p.have ≤ length block.old) × (r.going ≡ true → at + r.at ≤ 9999999999) }
     ensures { Further p at r block.old block.new result }
 {

@@ -50,7 +50,7 @@ pub trait TellPrint {
 
 // Behind a print of n bytes at a place.
 #[tactic(auto)]
-fn goes_on(place: u64, n: u64) -> bool
+pub fn goes_on(place: u64, n: u64) -> bool
     requires { (place ≤ 9999999999) × (n ≤ longest_print) }
     ensures { result ≡ leb 1 n && leb (place + n) 9999999999 }
 {
@@ -76,7 +76,7 @@ fn tell_print<T: TellPrint>(block: &[u8], place: u64, r: Reading, lines: &mut [u
 
 // Bytes are left, enough of them to tell the print, and there is room for a line of the most bytes.
 #[tactic(auto, unfolding(crate::specs::Block::may_read))]
-fn may_read(left: usize, ended: bool, room: usize, most: usize) -> bool
+pub fn may_read(left: usize, ended: bool, room: usize, most: usize) -> bool
     ensures { result ≡ may_read most left ended room }
 {
     1 <= left && most <= room && (ended || LONGEST_PRINT <= left)
